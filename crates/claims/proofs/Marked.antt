@@ -1,0 +1,10 @@
+-- The marked values hold, each by computing.
+-- Assumes nothing.
+use mathlib.Core.Path.{refl}
+use Rattle.bits.specs.Bits.{bit, number}
+use Rattle.permutation.specs.Permutation.{μ, rotl}
+use Rattle.claims.specs.Marked.{MarkedHold}
+
+pub marked-hold : MarkedHold
+unfolding bit number μ rotl
+marked-hold = refl

@@ -1,0 +1,6 @@
+pub mod Words
+pub mod Columns
+pub mod Matrix
+pub mod Rotation
+pub mod SBox
+pub mod AppendixB

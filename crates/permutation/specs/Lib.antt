@@ -1,0 +1,5 @@
+pub mod Field
+pub mod State
+pub mod Permutation
+pub mod Words
+pub mod AppendixB

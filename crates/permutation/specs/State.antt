@@ -1,0 +1,39 @@
+-- The state S of ICEPOLE (003, 2.3): four columns of five 64-bit words, S[x][y].
+-- Assumes nothing.
+use mathlib.Core.Bool.{Bool}
+use mathlib.Core.List.{List, [], _∷_}
+use Prim.Native.Nat.{ℕ, zero, suc}
+use lib.ListN.{getD, set}
+use Rattle.bits.specs.Bits.{bit}
+
+-- f 0, f 1, .., f (n - 1)
+abbrev pub tabulate : {A : Type 0} → ℕ → (ℕ → A) → List A
+tabulate zero f = []
+tabulate (suc n) f = f 0 ∷ tabulate n (λ k. f (suc k))
+
+-- columns of words; a table of the paper is one too
+abbrev pub Grid : Type 0
+Grid = List (List ℕ)
+
+-- m columns of n words, the word in column x and row y being f x y
+abbrev pub grid : ℕ → ℕ → (ℕ → ℕ → ℕ) → Grid
+grid m n f = tabulate m (λ x. tabulate n (f x))
+
+-- the word in column x and row y: S[x][y]
+abbrev pub at : Grid → ℕ → ℕ → ℕ
+at s x y = getD (getD s x []) y 0
+
+-- s with S[x][y] := w
+abbrev pub setWord : Grid → ℕ → ℕ → ℕ → Grid
+setWord s x y w = set s x (set (getD s x []) y w)
+
+abbrev pub State : Type 0
+State = Grid
+
+-- the state with S[x][y] = f x y
+abbrev pub state : (ℕ → ℕ → ℕ) → State
+state = grid 4 5
+
+-- slice z of s: S[x][y][z], bit z of S[x][y], at x and y
+abbrev pub slice : State → ℕ → ℕ → ℕ → Bool
+slice s z x y = bit (at s x y) z

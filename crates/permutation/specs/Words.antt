@@ -1,0 +1,59 @@
+-- What the code does on whole words, 64 bit positions at once. Nobody has to believe this file: `proofs/` shows that it is what `Permutation` says of each bit.
+-- Assumes nothing.
+use mathlib.Core.List.{List, [], _∷_}
+use Prim.Native.Nat.{ℕ, _+_, _-_, _%_, _^_}
+use lib.Bits.{bitXor, bitAnd, bitOr}
+use lib.ListN.{getD}
+use Rattle.permutation.specs.State.{State, tabulate}
+use Rattle.permutation.specs.Permutation.{rotl, μ, ρ, π, ψ, addConstant}
+
+infixl 30 _∣_
+infixl 32 _⊻_
+infixl 35 _&_
+abbrev pub _∣_ : ℕ → ℕ → ℕ
+a ∣ b = bitOr a b
+
+abbrev pub _⊻_ : ℕ → ℕ → ℕ
+a ⊻ b = bitXor a b
+
+abbrev pub _&_ : ℕ → ℕ → ℕ
+a & b = bitAnd a b
+
+-- the complement of a word
+abbrev pub ~ : ℕ → ℕ
+~ a = (2 ^ 64 - 1) - a
+
+-- five words
+abbrev pub Column : Type 0
+Column = List ℕ
+
+-- ---- μ: at each bit position the five words hold an element of GF(2^5), the word y its coefficient at a^y
+abbrev pub twiceWords : Column → Column
+twiceWords p = let P : ℕ → ℕ = λ y. getD p y 0 in P 4 ∷ P 0 ∷ (P 1 ⊻ P 4) ∷ P 2 ∷ P 3 ∷ []
+
+abbrev pub times18Words : Column → Column
+times18Words p = let P : ℕ → ℕ = λ y. getD p y 0 in P 1 ∷ (P 2 ⊻ P 0) ∷ P 3 ∷ P 4 ∷ P 0 ∷ []
+
+abbrev pub sum2Words : Column → Column → Column
+sum2Words p q = tabulate 5 (λ y. getD p y 0 ⊻ getD q y 0)
+
+abbrev pub sum3Words : Column → Column → Column → Column
+sum3Words p q t = tabulate 5 (λ y. getD p y 0 ⊻ getD q y 0 ⊻ getD t y 0)
+
+-- ---- ρ: a column with its offsets
+abbrev pub rotlColumn : Column → List ℕ → Column
+rotlColumn w k = tabulate 5 (λ y. rotl (getD w y 0) (getD k y 0))
+
+-- ---- ψ: the S-box on five words, by the differences of neighbours: where all five agree, every word is negated
+abbrev pub sboxWord : Column → ℕ → ℕ
+sboxWord m k =
+    let M : ℕ → ℕ = λ j. getD m j 0 in
+    M k ⊻ (M ((k + 2) % 5) & (M ((k + 1) % 5) ⊻ M ((k + 2) % 5)))
+    ⊻ ~ ((M 0 ⊻ M 1) ∣ (M 1 ⊻ M 2) ∣ (M 2 ⊻ M 3) ∣ (M 3 ⊻ M 4))
+
+abbrev pub sboxWords : Column → Column
+sboxWords m = tabulate 5 (sboxWord m)
+
+-- ---- a round, with its constant
+unfoldable pub roundWith : State → ℕ → State
+roundWith s c = addConstant (ψ (π (ρ (μ s)))) c

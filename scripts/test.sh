@@ -1,0 +1,67 @@
+#!/bin/sh
+# Runs every test and ends with the line 'N passed, M failed'; exit status 0 only when nothing failed.
+cd "$(dirname "$0")/.." || exit 1
+passed=0
+failed=0
+
+# A step that is not a counting runner: one test, passed or failed.
+step() {
+    name=$1
+    shift
+    if "$@"; then
+        passed=$((passed + 1))
+    else
+        echo "FAILED: $name"
+        failed=$((failed + 1))
+    fi
+}
+
+# Every folder under crates/ is listed in crates.txt.
+crates_listed() {
+    status=0
+    for dir in crates/*/; do
+        name=$(basename "$dir")
+        grep -q "^$name:" crates.txt || { echo "crates/$name is not listed in crates.txt"; status=1; }
+    done
+    return $status
+}
+
+# The last line 'N passed, M failed' of rt ci. A run without one, or whose exit status and line disagree, is a failure.
+prove() {
+    mkdir -p build
+    rt ci >build/rt-ci.log 2>&1
+    status=$?
+    grep -E '^rt: |NOT PROVED|error' build/rt-ci.log | cut -c1-200
+    line=$(tail -n 1 build/rt-ci.log)
+    n=$(echo "$line" | sed -n 's/^\([0-9][0-9]*\) passed, \([0-9][0-9]*\) failed$/\1/p')
+    m=$(echo "$line" | sed -n 's/^\([0-9][0-9]*\) passed, \([0-9][0-9]*\) failed$/\2/p')
+    passed=$((passed + ${n:-0}))
+    failed=$((failed + ${m:-0}))
+    if [ -z "$n" ] || { [ "$status" -ne 0 ] && [ "$m" -eq 0 ]; } || [ "$((n + m))" -eq 0 ]; then
+        echo "FAILED: rt ci (exit status $status): $line"
+        failed=$((failed + 1))
+    fi
+}
+
+# The sums over cargo's lines 'test result: ok. N passed; M failed; ..'.
+rust_tests() {
+    (cd tests && cargo test --offline --no-fail-fast) >build/cargo.log 2>&1
+    status=$?
+    grep -E '^test |^test result|panicked|error' build/cargo.log | grep -v ' \.\.\. ok$' | cut -c1-200
+    n=$(sed -n 's/^test result: [A-Za-z]*\. \([0-9]*\) passed; \([0-9]*\) failed;.*/\1/p' build/cargo.log | awk '{s += $1} END {print s + 0}')
+    m=$(sed -n 's/^test result: [A-Za-z]*\. \([0-9]*\) passed; \([0-9]*\) failed;.*/\2/p' build/cargo.log | awk '{s += $1} END {print s + 0}')
+    passed=$((passed + n))
+    failed=$((failed + m))
+    if { [ "$status" -ne 0 ] && [ "$m" -eq 0 ]; } || [ "$n" -eq 0 ]; then
+        echo "FAILED: cargo test (exit status $status)"
+        tail -n 20 build/cargo.log
+        failed=$((failed + 1))
+    fi
+}
+
+step "every crate is listed" crates_listed
+step "rt fmt --check" rt fmt --check
+prove
+rust_tests
+echo "$passed passed, $failed failed" | tee build/result
+[ "$failed" -eq 0 ]

@@ -1,0 +1,5 @@
+//! Prints the test vectors of the permutation.
+
+fn main() {
+    print!("{}", reference::vectors::permutation_vectors());
+}

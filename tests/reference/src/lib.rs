@@ -1,0 +1,7 @@
+//! Reference implementation of ICEPOLE, written from the documents alone:
+//! the scope paper (01-scope.md) and the ICEPOLE paper (003). Where the two
+//! differ, the scope paper decides. The proved code is tested against it.
+
+pub mod permutation;
+pub mod random;
+pub mod vectors;

@@ -1,0 +1,137 @@
+//! The permutation bit by bit, straight from the definitions of 003, 2.5.
+
+use super::{pi_target, State, OFFSETS, ROUND_CONSTANTS, ZERO_STATE};
+
+/// The matrix of mu; an entry's bit i is the coefficient of a^i (003, 2.5).
+const MATRIX: [[u8; 4]; 4] = [[2, 1, 1, 1], [1, 1, 18, 2], [1, 2, 1, 18], [1, 18, 2, 1]];
+
+/// a^5 + a^2 + 1, the modulus of GF(2^5) (003, 2.5).
+const MODULUS: u16 = 0b100101;
+
+/// Bit S[x][y][z] (003, 2.3).
+pub fn bit(state: &State, x: usize, y: usize, z: usize) -> u8 {
+    ((state[x][y] >> z) & 1) as u8
+}
+
+/// The five bits over y at one x and z; bit y of the result is S[x][y][z].
+pub fn five_bits(state: &State, x: usize, z: usize) -> u8 {
+    (0..5).fold(0, |value, y| value | (bit(state, x, y, z) << y))
+}
+
+/// Xors five bits over y into the state at one x and z.
+fn xor_five_bits(state: &mut State, x: usize, z: usize, value: u8) {
+    for y in 0..5 {
+        state[x][y] ^= u64::from((value >> y) & 1) << z;
+    }
+}
+
+/// The product in GF(2^5): binary polynomials modulo a^5 + a^2 + 1 (003, 2.5).
+pub fn multiply(left: u8, right: u8) -> u8 {
+    let mut product: u16 = 0;
+    for i in 0..5 {
+        if (left >> i) & 1 == 1 {
+            product ^= u16::from(right) << i;
+        }
+    }
+    for degree in (5..=8).rev() {
+        if (product >> degree) & 1 == 1 {
+            product ^= MODULUS << (degree - 5);
+        }
+    }
+    product as u8
+}
+
+/// mu: each slice, as four elements of GF(2^5), is multiplied by the matrix.
+pub fn mu(state: State) -> State {
+    let mut next = ZERO_STATE;
+    for z in 0..64 {
+        for x in 0..4 {
+            let mut sum = 0;
+            for k in 0..4 {
+                sum ^= multiply(MATRIX[x][k], five_bits(&state, k, z));
+            }
+            xor_five_bits(&mut next, x, z, sum);
+        }
+    }
+    next
+}
+
+/// rho: bit z of word (x, y) moves to (z + offset) mod 64.
+pub fn rho(state: State) -> State {
+    let mut next = ZERO_STATE;
+    for x in 0..4 {
+        for y in 0..5 {
+            for z in 0..64 {
+                let to_z = (z + OFFSETS[x][y] as usize) % 64;
+                next[x][y] |= u64::from(bit(&state, x, y, z)) << to_z;
+            }
+        }
+    }
+    next
+}
+
+/// pi: the word (x, y) moves to (x', y').
+pub fn pi(state: State) -> State {
+    let mut next = ZERO_STATE;
+    for x in 0..4 {
+        for y in 0..5 {
+            let (to_x, to_y) = pi_target(x, y);
+            for z in 0..64 {
+                next[to_x][to_y] |= u64::from(bit(&state, x, y, z)) << z;
+            }
+        }
+    }
+    next
+}
+
+/// The S-box on five bits; M_k and Z_k are bit k of the numbers (003, 2.5).
+pub fn sbox(input: u8) -> u8 {
+    let m = |k: u8| (input >> (k % 5)) & 1;
+    let not = |value: u8| value ^ 1;
+    let all_ones = m(0) & m(1) & m(2) & m(3) & m(4);
+    let all_zeros = not(m(0)) & not(m(1)) & not(m(2)) & not(m(3)) & not(m(4));
+    let mut output = 0;
+    for k in 0..5 {
+        let z_k = m(k) ^ (not(m(k + 1)) & m(k + 2)) ^ all_ones ^ all_zeros;
+        output |= z_k << k;
+    }
+    output
+}
+
+/// psi: the S-box on the five bits over y, for each x and z.
+pub fn psi(state: State) -> State {
+    let mut next = ZERO_STATE;
+    for x in 0..4 {
+        for z in 0..64 {
+            xor_five_bits(&mut next, x, z, sbox(five_bits(&state, x, z)));
+        }
+    }
+    next
+}
+
+/// kappa: S[0][0] is xored with the constant of the round.
+pub fn kappa(state: State, number: usize) -> State {
+    let mut next = state;
+    next[0][0] ^= ROUND_CONSTANTS[number];
+    next
+}
+
+/// One round: mu, rho, pi, psi, kappa, in that order.
+pub fn round(state: State, number: usize) -> State {
+    kappa(psi(pi(rho(mu(state)))), number)
+}
+
+/// The first `count` rounds, constants from 0; `count` is at most 12.
+pub fn rounds(state: State, count: usize) -> State {
+    (0..count).fold(state, round)
+}
+
+/// P6.
+pub fn p6(state: State) -> State {
+    rounds(state, 6)
+}
+
+/// P12.
+pub fn p12(state: State) -> State {
+    rounds(state, 12)
+}
