@@ -1,0 +1,23 @@
+-- Bytes in a buffer, and numbers as little-endian bytes (01: "All multi-byte numbers are little-endian").
+-- Assumes nothing.
+use mathlib.Core.List.{List, [], _∷_, _++_}
+use Prim.Native.Nat.{ℕ, zero, suc, _+_, _*_, _/_, _%_}
+use lib.ListN.{length, take, drop}
+
+-- numbers below 256
+abbrev pub Bytes : Type 0
+Bytes = List ℕ
+
+-- b with vs in the place of what stood from index i on
+unfoldable pub putBytes : Bytes → ℕ → Bytes → Bytes
+putBytes b i vs = take i b ++ (vs ++ drop (i + length vs) b)
+
+-- the n low bytes of x, low byte first
+abbrev pub le : ℕ → ℕ → Bytes
+le zero x = []
+le (suc n) x = x % 256 ∷ le n (x / 256)
+
+-- the number whose bytes these are, low byte first
+abbrev pub unle : Bytes → ℕ
+unle [] = 0
+unle (b ∷ bs) = b + 256 * unle bs

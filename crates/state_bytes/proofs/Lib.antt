@@ -1,0 +1,4 @@
+pub mod Lengths
+pub mod Turns
+pub mod Words
+pub mod View
