@@ -1,0 +1,115 @@
+-- What a turn of each loop over the words of a full block does.
+-- Assumes nothing.
+use mathlib.Core.Path.{_≡_, refl, sym, ap, ap₂, _∙_}
+use mathlib.Core.List.{[], _∷_, _++_, append-assoc}
+use Prim.Native.Nat.{ℕ, zero, suc, _<_, _+_, _*_, _/_, _%_, _≤_}
+use native.Mathlib.Nat.{not-suc-le-zero, le-of-suc-le-suc}
+use native.Mathlib.Omega.{arith}
+use lib.Bits.{bitXor}
+use lib.ListN.{length, take, drop, replicate}
+use lib.Seq.{drop-drop, take-add}
+use Rattle.bytes_le.specs.Bytes.{Bytes, le, putBytes}
+use Rattle.permutation.specs.Permutation.{P}
+use Rattle.permutation.specs.State.{State, setWord}
+use Rattle.state_bytes.specs.StateBytes.{bytesOf, permuted, wordOf}
+use Rattle.bytes_le.proofs.Laws.{put-put}
+use Rattle.state_bytes.proofs.Words.{Shape, bytes-set-word, bytes-word}
+use Rattle.icepole.specs.Sealing.{_⊕_, absorb, pad, xorWith}
+use Rattle.icepole.proofs.Runs.{decrypt-run, le-xor, set-run, xor-run, xor-with-run}
+use Rattle.icepole.proofs.Steps.{length-part, xor-with-zeros}
+use Rattle.icepole.proofs.Xor.{length-xor}
+
+-- ---- a turn of a loop over the words of a block: the words below w of the part of d from at on are done
+module _ (t : State) (ht : Shape t) (w : ℕ) (hw : w < 20) (v : Bytes) (hv : length v ≡ 160) (p q : Bytes) (hp : length p ≡ 8 * w) (k : ℕ) (hk : le 8 k ≡ q) where
+  lq : length q ≡ 8
+  lq = ap length (sym hk)
+
+  fit : length p + length q ≤ length v
+  fit = let l : length q ≡ 8 = lq in omega arith
+
+  -- the xored wordOf, as bytes of the state's bytes b
+  new : (b : Bytes) → bytesOf t ≡ b → le 8 (bitXor (wordOf t w) k) ≡ take (length q) (drop (length p) b) ⊕ q
+  new b e =
+      le-xor 8 (wordOf t w) k
+      ∙ ap₂ (λ (x y : Bytes). x ⊕ y) (sym (bytes-word t ht w hw)) hk
+      ∙ ap₂ (λ (m n : ℕ). take m (drop n (bytesOf t)) ⊕ q) (sym lq) (sym hp)
+      ∙ ap (λ (b : Bytes). take (length q) (drop (length p) b) ⊕ q) e
+
+  pub turn-xor-with : bytesOf t ≡ xorWith v p → bytesOf (setWord t (w % 4) (w / 4) (bitXor (wordOf t w) k)) ≡ xorWith v (p ++ q)
+  turn-xor-with e =
+      bytes-set-word t ht w hw (bitXor (wordOf t w) k)
+      ∙ ap₂ (λ (n : ℕ) (l : Bytes). putBytes (bytesOf t) n l) (sym hp) (new (xorWith v p) e)
+      ∙ ap (λ (b : Bytes). putBytes b (length p) (take (length q) (drop (length p) (xorWith v p)) ⊕ q)) e
+      ∙ xor-with-run v p q fit
+
+  pub turn-xor : bytesOf t ≡ xorWith v p → v ⊕ (p ++ q) ≡ (v ⊕ p) ++ le 8 (bitXor (wordOf t w) k)
+  turn-xor e = xor-run v p q fit ∙ ap (λ (l : Bytes). (v ⊕ p) ++ l) (sym (new (xorWith v p) e))
+
+  pub turn-set : bytesOf t ≡ xorWith v (v ⊕ p) → bytesOf (setWord t (w % 4) (w / 4) k) ≡ xorWith v (v ⊕ (p ++ q))
+  turn-set e =
+      bytes-set-word t ht w hw k
+      ∙ ap₂ (λ (n : ℕ) (l : Bytes). putBytes (bytesOf t) n l) (sym hp) hk
+      ∙ ap (λ (b : Bytes). putBytes b (length p) q) e
+      ∙ set-run v p q fit
+
+  pub turn-decrypt : bytesOf t ≡ xorWith v (v ⊕ p) → v ⊕ (p ++ q) ≡ (v ⊕ p) ++ le 8 (bitXor (wordOf t w) k)
+  turn-decrypt e = decrypt-run v p q fit ∙ ap (λ (l : Bytes). (v ⊕ p) ++ l) (sym (new (xorWith v (v ⊕ p)) e))
+
+-- a word more of a part
+pub part-word : (d : Bytes) (i w : ℕ) → take (8 * (w + 1)) (drop i d) ≡ take (8 * w) (drop i d) ++ take 8 (drop (i + 8 * w) d)
+part-word d i w =
+    let e : 8 * (w + 1) ≡ 8 * w + 8 = omega arith in
+    ap (λ (n : ℕ). take n (drop i d)) e ∙ take-add (8 * w) 8 (drop i d) ∙ ap (λ (l : Bytes). take (8 * w) (drop i d) ++ take 8 l) (drop-drop (8 * w) i d)
+
+-- ---- the padding, in word w
+two : (P : ℕ → Type 0) → P 0 → P 1 → (n : ℕ) → n < 2 → P n
+two P p q zero h = p
+two P p q (suc zero) h = q
+two P p q (suc (suc n)) h = absurd (not-suc-le-zero (le-of-suc-le-suc (le-of-suc-le-suc h)))
+
+pub padded-word : (t : State) → Shape t → (w : ℕ) → w < 20 → (v p : Bytes) → length v ≡ 160 → length p ≡ 8 * w → (f : ℕ) → f < 2
+    → bytesOf t ≡ xorWith v p → bytesOf (setWord t (w % 4) (w / 4) (bitXor (wordOf t w) (f + 2))) ≡ xorWith v (pad p f)
+padded-word t ht w hw v p hv hp f hf e =
+    turn-xor-with t ht w hw v hv p ((f + 2) ∷ replicate 7 0) hp (f + 2) (two (λ (f : ℕ). le 8 (f + 2) ≡ (f + 2) ∷ replicate 7 0) refl refl f hf) e
+    ∙ ap (xorWith v) (sym (append-assoc p ((f + 2) ∷ []) (replicate 7 0)))
+    ∙ xor-with-zeros v (pad p f) 7
+
+pub full : (t : State) → Shape t → (n : ℕ) → n < 20 → (v p : Bytes) → length v ≡ 160 → length p ≡ 8 * n → (f : ℕ) → f < 2
+    → (r : Bytes) → bytesOf t ≡ xorWith v p → r ≡ permuted 6 (bytesOf (setWord t (n % 4) (n / 4) (bitXor (wordOf t n) (f + 2)))) → r ≡ absorb v p f
+unfolding absorb
+full t ht n hn v p hv hp f hf r e er = er ∙ ap (permuted 6) (padded-word t ht n hn v p hv hp f hf e)
+
+-- ---- the same, of a part of d from i on
+module _ (d : Bytes) (i w : ℕ) (h : i + 8 * (w + 1) ≤ length d) (hw : w < 20) (t : State) (ht : Shape t) (v : Bytes) (hv : length v ≡ 160) (k : ℕ) (hk : le 8 k ≡ take 8 (drop (i + 8 * w) d)) where
+  lp : length (take (8 * w) (drop i d)) ≡ 8 * w
+  lp = length-part d i (8 * w) (omega arith)
+
+  lx : length (v ⊕ take (8 * w) (drop i d)) ≡ 8 * w
+  lx = let l : length (take (8 * w) (drop i d)) ≡ 8 * w = lp in length-xor v (take (8 * w) (drop i d)) (omega arith) ∙ l
+
+  pub word-xor-with : bytesOf t ≡ xorWith v (take (8 * w) (drop i d))
+      → bytesOf (setWord t (w % 4) (w / 4) (bitXor (wordOf t w) k)) ≡ xorWith v (take (8 * (w + 1)) (drop i d))
+  word-xor-with e =
+      turn-xor-with t ht w hw v hv (take (8 * w) (drop i d)) (take 8 (drop (i + 8 * w) d)) lp k hk e ∙ ap (xorWith v) (sym (part-word d i w))
+
+  pub word-set : bytesOf t ≡ xorWith v (v ⊕ take (8 * w) (drop i d))
+      → bytesOf (setWord t (w % 4) (w / 4) k) ≡ xorWith v (v ⊕ take (8 * (w + 1)) (drop i d))
+  word-set e =
+      turn-set t ht w hw v hv (take (8 * w) (drop i d)) (take 8 (drop (i + 8 * w) d)) lp k hk e
+      ∙ ap (λ (l : Bytes). xorWith v (v ⊕ l)) (sym (part-word d i w))
+
+  module _ (o o₁ o₂ : Bytes) (to : ℕ) (ho : to + 8 * (w + 1) ≤ length o) (e₁ : o₁ ≡ putBytes o to (v ⊕ take (8 * w) (drop i d)))
+      (e₂ : o₂ ≡ putBytes o₁ (to + 8 * w) (le 8 (bitXor (wordOf t w) k))) where
+    out : v ⊕ (take (8 * w) (drop i d) ++ take 8 (drop (i + 8 * w) d)) ≡ (v ⊕ take (8 * w) (drop i d)) ++ le 8 (bitXor (wordOf t w) k)
+        → o₂ ≡ putBytes o to (v ⊕ take (8 * (w + 1)) (drop i d))
+    out e =
+        let l : length (v ⊕ take (8 * w) (drop i d)) ≡ 8 * w = lx in
+        e₂ ∙ ap (λ (b : Bytes). putBytes b (to + 8 * w) (le 8 (bitXor (wordOf t w) k))) e₁
+        ∙ put-put o to (v ⊕ take (8 * w) (drop i d)) (le 8 (bitXor (wordOf t w) k)) (to + 8 * w) (omega arith) (omega arith)
+        ∙ ap (putBytes o to) (sym e ∙ ap (λ (l : Bytes). v ⊕ l) (sym (part-word d i w)))
+
+    pub word-out : bytesOf t ≡ xorWith v (take (8 * w) (drop i d)) → o₂ ≡ putBytes o to (v ⊕ take (8 * (w + 1)) (drop i d))
+    word-out e = out (turn-xor t ht w hw v hv (take (8 * w) (drop i d)) (take 8 (drop (i + 8 * w) d)) lp k hk e)
+
+    pub word-decrypt : bytesOf t ≡ xorWith v (v ⊕ take (8 * w) (drop i d)) → o₂ ≡ putBytes o to (v ⊕ take (8 * (w + 1)) (drop i d))
+    word-decrypt e = out (turn-decrypt t ht w hw v hv (take (8 * w) (drop i d)) (take 8 (drop (i + 8 * w) d)) lp k hk e)

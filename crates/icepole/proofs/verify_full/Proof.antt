@@ -1,0 +1,19 @@
+-- `icepole::verify_full` meets its contract: the same call for each count of words.
+-- Assumes nothing.
+use mathlib.Core.Path.{sym, ap, _∙_}
+use Prim.Native.Nat.{ℕ, _*_}
+use lib.ListN.{take, drop}
+use borrow.Author.Needs.{needs}
+use Rattle.permutation.specs.State.{at}
+use Rattle.state_bytes.specs.StateBytes.{bytesOf}
+use Rattle.icepole.specs.Sealing.{_⊕_, absorb}
+use Rattle.icepole.proofs.verify_full.Statement.{statement}
+use Rattle.icepole.proofs.verify_full.Tie as tie
+
+returns : tie.Need-returns
+returns c =
+    let a = c .before .before .before .args in
+    c .verify-words .ensures ∙ ap (λ (k : ℕ). absorb (bytesOf (a .s)) (bytesOf (a .s) ⊕ take (8 * k) (drop (a .at) (a .c .now))) 1) (sym (c .before .if1 .taken))
+
+pub verify-full-spec : {M : Type 1} → statement M
+verify-full-spec = tie.close (tie.spec (λ c κs. search needs) returns (λ c κs. search needs) (λ c. search needs))

@@ -1,0 +1,74 @@
+-- `icepole::verify_words` meets its contract: the loop's invariant: the words below w of ciphertext stand in the state.
+-- Assumes nothing.
+use mathlib.Core.Path.{_≡_, ap, _∙_}
+use Prim.Native.Nat.{ℕ, _+_, _-_, _*_, _<_, _≤_}
+use native.Mathlib.Omega.{arith}
+use borrow.Author.Needs.{needs}
+use lib.ListN.{length, take, drop}
+use Rattle.permutation.specs.State.{at}
+use Rattle.state_bytes.specs.StateBytes.{bytesOf}
+use Rattle.state_bytes.proofs.Lengths.{length-bytes}
+use Rattle.state_bytes.proofs.View.{shape}
+use Rattle.state_bytes.proofs.Words.{Shape, shape-set-word}
+use Rattle.icepole.specs.Sealing.{_⊕_, xorWith}
+use Rattle.icepole.proofs.Full.{full, word-set}
+use Rattle.icepole.proofs.Steps.{length-part, xor-with-none}
+use Rattle.icepole.proofs.Xor.{length-xor}
+use Rattle.icepole.proofs.verify_words.Statement.{statement}
+use Rattle.icepole.proofs.verify_words.Tie as tie
+
+abbrev Inv-loop : tie.InvT-loop
+Inv-loop c at n t₀ w₀ t w = (w ≤ n) × (bytesOf t ≡ xorWith (bytesOf t₀) (bytesOf t₀ ⊕ take (8 * w) (drop at c))) × Shape t
+
+abbrev μ-loop : tie.MeasureT-loop
+μ-loop c at n t₀ w₀ t w = n - w
+
+loop-holds : tie.Need-loop-holds Inv-loop μ-loop
+loop-holds c = (omega arith, xor-with-none _, shape _ _ (c .before .good .0))
+
+loop-again : tie.Need-loop-again Inv-loop μ-loop
+loop-again c =
+    let l = c .before .before in
+    let a = c .before .before .before .before .args in
+    let d = a .c .now in
+    let h : l .loop .w < a .n = c .before .loop-test .taken in
+    let hw : l .loop .w < 20 = omega arith in
+    let hd : a .at + 8 * (l .loop .w + 1) ≤ length (a .c .now) = omega arith in
+    let v = bytesOf (a .s) in
+    let k = c .load-u64 .result in
+    let hk = c .load-u64 .ensures .1 in (
+      omega arith,
+      word-set d (a .at) (l .loop .w) hd hw (l .loop .t) (l .loop .inv .2) v (length-bytes (a .s)) k hk (l .loop .inv .1),
+      shape-set-word (l .loop .t) (l .loop .inv .2) (l .loop .w) hw _,
+    )
+
+returns : tie.Need-returns Inv-loop μ-loop
+returns c =
+    let l = c .before .before in
+    let a = c .before .before .before .before .args in
+    let lv : length (bytesOf (a .s)) ≡ 160 = length-bytes (a .s) in
+    let e : l .loop .w ≡ a .n = omega arith in
+    let lp : length (take (8 * a .n) (drop (a .at) (a .c .now))) ≡ 8 * a .n = length-part (a .c .now) (a .at) (8 * a .n) (omega arith) in
+    let lx : length (bytesOf (a .s) ⊕ take (8 * a .n) (drop (a .at) (a .c .now))) ≡ 8 * a .n = length-xor (bytesOf (a .s)) (take (8 * a .n) (drop (a .at) (a .c .now))) (omega arith) ∙ lp in
+    full (l .loop .t) (l .loop .inv .2) (a .n) (omega arith) (bytesOf (a .s)) (bytesOf (a .s) ⊕ take (8 * a .n) (drop (a .at) (a .c .now))) lv lx 1 (omega arith) _
+    (l .loop .inv .1 ∙ ap (λ (k : ℕ). xorWith (bytesOf (a .s)) (bytesOf (a .s) ⊕ take (8 * k) (drop (a .at) (a .c .now)))) e) (c .finish-words .ensures)
+
+pub verify-words-spec : {M : Type 1} → statement M
+verify-words-spec =
+    tie.close
+    (tie.spec
+    Inv-loop
+    μ-loop
+    loop-holds
+    (λ c. omega arith)
+    (λ c. omega arith)
+    (λ c κs. search needs)
+    (λ c. omega arith)
+    (λ c. omega arith)
+    (λ c. omega arith)
+    (λ c. omega arith)
+    (λ c. omega arith)
+    (λ c. omega arith)
+    loop-again
+    (λ c κs. search needs)
+    returns)

@@ -1,0 +1,4 @@
+pub mod Variants
+pub mod Sealing
+pub mod Answers
+pub mod Bounds
