@@ -1,0 +1,26 @@
+-- The C opening (01, "Sealing and opening"): it puts the message's length (8 bytes) and then the secret number at the front of a further lent slice, here called info.
+-- Assumes nothing.
+use mathlib.Core.Bool.{Bool, _&&_}
+use mathlib.Core.List.{_++_}
+use Prim.Native.Nat.{ℕ, _+_}
+use lib.Dec.{leb}
+use lib.ListN.{length}
+use Rattle.bytes_le.specs.Bytes.{Bytes, putBytes, le}
+use Rattle.icepole.specs.declared.Variant.{Variant}
+use Rattle.icepole.specs.Variants.{sizes}
+use Rattle.icepole.specs.Sealing.{secretOf}
+use Rattle.icepole.specs.Answers.{openRefusal, openLength, openOutput, fitsOutput, unless}
+
+module _ (v : Variant) (key nonce ad c out info : Bytes) where
+  -- refusal 5 holds for both slices
+  abbrev pub fitsBoth : Bool
+  fitsBoth = leb (8 + sizes v .secret) (length info) && fitsOutput v key nonce ad c out
+
+  abbrev pub callRefusal : ℕ
+  callRefusal = openRefusal v key nonce ad c fitsBoth
+
+  abbrev pub callOutput : Bytes
+  callOutput = openOutput v key nonce ad c fitsBoth out
+
+  unfoldable pub callInfo : Bytes
+  callInfo = unless callRefusal info (putBytes info 0 (le 8 (openLength v key nonce ad c) ++ secretOf (sizes v) key nonce c))
