@@ -4,4 +4,5 @@
 
 pub mod permutation;
 pub mod random;
+pub mod sealing;
 pub mod vectors;

@@ -20,6 +20,20 @@ impl SplitMix64 {
         v ^ (v >> 31)
     }
 
+    /// A number below `limit`, which is not 0; small limits come out nearly even.
+    pub fn below(&mut self, limit: usize) -> usize {
+        (self.next_word() % limit as u64) as usize
+    }
+
+    pub fn next_bytes(&mut self, count: usize) -> Vec<u8> {
+        let mut bytes = Vec::with_capacity(count + 7);
+        while bytes.len() < count {
+            bytes.extend(self.next_word().to_le_bytes());
+        }
+        bytes.truncate(count);
+        bytes
+    }
+
     pub fn next_state(&mut self) -> State {
         let mut state = ZERO_STATE;
         for column in &mut state {

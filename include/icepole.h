@@ -1,0 +1,100 @@
+/*
+ * ICEPOLE-128, ICEPOLE-128a and ICEPOLE-256a: authenticated encryption of whole messages.
+ *
+ * The functions are written in Rattle and proved to meet their contracts (crates/icepole_c). Link target/staticlib/libicepole_c.a,
+ * which `make lib` builds.
+ *
+ * Slices. Every slice is a pointer and a length in bytes. Slices do not overlap, and the pointers are valid for their lengths; the
+ * proofs assume it. An empty slice is any pointer, not NULL, with length 0. All numbers are little-endian.
+ *
+ * Associated data comes in two parts, ad1 and ad2, and means their joining, ad1 then ad2. Where there is one part, the other is empty.
+ *
+ * Result. Each function returns a refusal number, 0 when it is done. A number is given where its condition is the first in the order
+ * below to hold. A refused call writes nothing.
+ *
+ * Nonces. A key and a nonce may be used for one sealed message only.
+ */
+#ifndef ICEPOLE_H
+#define ICEPOLE_H
+
+#include <stddef.h>
+#include <stdint.h>
+
+#ifdef __cplusplus
+extern "C" {
+#endif
+
+/* The refusal numbers. Sealing tests them in the order 1, 2, 3, 4, 5; opening in the order 1, 2, 4, 6, 5, 7. */
+enum icepole_refusal {
+    ICEPOLE_DONE = 0,
+    ICEPOLE_KEY_LENGTH = 1,       /* the key has another length than the variant's */
+    ICEPOLE_NONCE_LENGTH = 2,     /* the nonce has another length than the variant's */
+    ICEPOLE_SECRET_LENGTH = 3,    /* the secret number has another length than the variant's */
+    ICEPOLE_DATA_TOO_LONG = 4,    /* associated data (both parts together) or message, also the one that a sealed message implies, is above ICEPOLE_MAX_BYTES */
+    ICEPOLE_OUTPUT_TOO_SHORT = 5, /* out, or in opening info, is too short */
+    ICEPOLE_SEALED_TOO_SHORT = 6, /* the sealed message is shorter than the sealed secret number and the tag */
+    ICEPOLE_TAG_DIFFERS = 7       /* the tag differs: not sealed under this key, nonce and associated data */
+};
+
+/* Associated data and message are at most so many bytes each. */
+#define ICEPOLE_MAX_BYTES 67108864
+
+/* Sizes in bytes. A sealed message is OVERHEAD bytes longer than its message. INFO is what opening writes to info. */
+#define ICEPOLE128_KEY_BYTES 16
+#define ICEPOLE128_NONCE_BYTES 16
+#define ICEPOLE128_SECRET_BYTES 16
+#define ICEPOLE128_OVERHEAD_BYTES 32
+#define ICEPOLE128_INFO_BYTES 24
+
+#define ICEPOLE128A_KEY_BYTES 16
+#define ICEPOLE128A_NONCE_BYTES 12
+#define ICEPOLE128A_SECRET_BYTES 0
+#define ICEPOLE128A_OVERHEAD_BYTES 16
+#define ICEPOLE128A_INFO_BYTES 8
+
+#define ICEPOLE256A_KEY_BYTES 32
+#define ICEPOLE256A_NONCE_BYTES 12
+#define ICEPOLE256A_SECRET_BYTES 0
+#define ICEPOLE256A_OVERHEAD_BYTES 16
+#define ICEPOLE256A_INFO_BYTES 8
+
+/*
+ * Sealing: writes the sealed secret number, the ciphertext and the 16-byte tag, msg_len + OVERHEAD bytes, to the front of out; later
+ * bytes stay. The secret number of 128a and 256a is empty.
+ */
+uint32_t icepole128_seal(const uint8_t *key, size_t key_len, const uint8_t *nonce, size_t nonce_len,
+                         const uint8_t *secret, size_t secret_len, const uint8_t *ad1, size_t ad1_len,
+                         const uint8_t *ad2, size_t ad2_len, const uint8_t *msg, size_t msg_len,
+                         uint8_t *out, size_t out_len);
+uint32_t icepole128a_seal(const uint8_t *key, size_t key_len, const uint8_t *nonce, size_t nonce_len,
+                          const uint8_t *secret, size_t secret_len, const uint8_t *ad1, size_t ad1_len,
+                          const uint8_t *ad2, size_t ad2_len, const uint8_t *msg, size_t msg_len,
+                          uint8_t *out, size_t out_len);
+uint32_t icepole256a_seal(const uint8_t *key, size_t key_len, const uint8_t *nonce, size_t nonce_len,
+                          const uint8_t *secret, size_t secret_len, const uint8_t *ad1, size_t ad1_len,
+                          const uint8_t *ad2, size_t ad2_len, const uint8_t *msg, size_t msg_len,
+                          uint8_t *out, size_t out_len);
+
+/*
+ * Opening: where the tag agrees, writes the message, sealed_len - OVERHEAD bytes, to the front of out, and the message's length
+ * (8 bytes) and then the secret number (SECRET bytes) to the front of info; later bytes of both stay. Nothing is written before the
+ * tag was found to agree.
+ */
+uint32_t icepole128_open(const uint8_t *key, size_t key_len, const uint8_t *nonce, size_t nonce_len,
+                         const uint8_t *ad1, size_t ad1_len, const uint8_t *ad2, size_t ad2_len,
+                         const uint8_t *sealed, size_t sealed_len, uint8_t *out, size_t out_len,
+                         uint8_t *info, size_t info_len);
+uint32_t icepole128a_open(const uint8_t *key, size_t key_len, const uint8_t *nonce, size_t nonce_len,
+                          const uint8_t *ad1, size_t ad1_len, const uint8_t *ad2, size_t ad2_len,
+                          const uint8_t *sealed, size_t sealed_len, uint8_t *out, size_t out_len,
+                          uint8_t *info, size_t info_len);
+uint32_t icepole256a_open(const uint8_t *key, size_t key_len, const uint8_t *nonce, size_t nonce_len,
+                          const uint8_t *ad1, size_t ad1_len, const uint8_t *ad2, size_t ad2_len,
+                          const uint8_t *sealed, size_t sealed_len, uint8_t *out, size_t out_len,
+                          uint8_t *info, size_t info_len);
+
+#ifdef __cplusplus
+}
+#endif
+
+#endif

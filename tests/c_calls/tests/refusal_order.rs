@@ -1,0 +1,322 @@
+//! Every set of conditions that can hold together gives the number of the
+//! first in the scope paper's order, and a refused call writes nothing.
+
+use std::collections::HashSet;
+use std::sync::LazyLock;
+
+use c_calls::case::info_written;
+use c_calls::for_each_variant;
+use c_calls::lent::Lent;
+use reference::sealing::{words, Variant, MAXIMUM};
+
+/// One byte above the maximum.
+const OVER: usize = MAXIMUM + 1;
+
+/// Zero bytes, lent as data above its maximum.
+static ZEROS: LazyLock<Vec<u8>> = LazyLock::new(|| vec![0; OVER]);
+
+/// Short bytes, lent as keys, nonces, secret numbers and short data.
+static BYTES: LazyLock<Vec<u8>> = LazyLock::new(|| (0..60).map(|n| 3 * n + 1).collect());
+
+/// A message, short or above the maximum.
+fn message(over: bool) -> &'static [u8] {
+    if over {
+        &ZEROS
+    } else {
+        &BYTES[..10]
+    }
+}
+
+/// The two parts of associated data: first a short one, then the ways in
+/// which both together are above the maximum.
+fn associated_data() -> Vec<(&'static [u8], &'static [u8])> {
+    vec![
+        BYTES[20..27].split_at(3),
+        ZEROS.split_at(MAXIMUM / 2),
+        ZEROS.split_at(OVER),
+        ZEROS.split_at(0),
+        ZEROS.split_at(MAXIMUM),
+        ZEROS.split_at(1),
+    ]
+}
+
+/// The right length, and after it wrong ones.
+fn lengths(right: usize) -> Vec<usize> {
+    let mut lengths = vec![right];
+    let beside = [right.saturating_sub(1), right + 1];
+    for length in beside.into_iter().chain([0, 1, 12, 16, 32, 48]) {
+        if !lengths.contains(&length) {
+            lengths.push(length);
+        }
+    }
+    lengths
+}
+
+/// Every choice of one number below each limit.
+fn choices<const N: usize>(limits: [usize; N]) -> impl Iterator<Item = [usize; N]> {
+    (0..limits.iter().product()).map(move |mut number| {
+        limits.map(|limit| {
+            let digit = number % limit;
+            number /= limit;
+            digit
+        })
+    })
+}
+
+/// The first number in the order whose condition holds, or 0.
+fn first_to_hold(order: &[(u32, bool)]) -> u32 {
+    let first = order.iter().find(|(_, holds)| *holds);
+    first.map_or(0, |(number, _)| *number)
+}
+
+/// An output longer than this is looked at whole after the call, which takes
+/// time. It is then just long enough, way 0, and the other conditions hold in
+/// one way only, way 1.
+const LARGE: usize = 64;
+
+fn is_left_out(out_len: usize, out_way: usize, other_ways: &[usize]) -> bool {
+    out_len > LARGE && (out_way != 0 || other_ways.iter().any(|way| *way > 1))
+}
+
+fn seal_in_the_order_1_2_3_4_5(variant: Variant) {
+    let sizes = variant.sizes();
+    let keys = lengths(sizes.key);
+    let nonces = lengths(sizes.nonce);
+    let secrets = lengths(sizes.secret);
+    let ads = associated_data();
+    let mut small = Lent::new(LARGE);
+    let mut large = Lent::new(OVER + 40);
+    let mut subsets = HashSet::new();
+
+    let limits = [keys.len(), nonces.len(), secrets.len(), ads.len(), 2, 4];
+    for [k, n, s, a, m, o] in choices(limits) {
+        let (key, nonce, secret) = (keys[k], nonces[n], secrets[s]);
+        let (ad1, ad2) = ads[a];
+        let msg = message(m == 1);
+        let needed = msg.len() + variant.overhead();
+        let out_len = [needed, needed - 1, needed + 3, 0][o];
+        if is_left_out(out_len, o, &[k, n, s, a]) {
+            continue;
+        }
+
+        let order = [
+            (1, key != sizes.key),
+            (2, nonce != sizes.nonce),
+            (3, secret != sizes.secret),
+            (4, ad1.len() + ad2.len() > MAXIMUM),
+            (4, msg.len() > MAXIMUM),
+            (5, out_len < needed),
+        ];
+        subsets.insert(order);
+        let what = || {
+            let (ad1, ad2, msg) = (ad1.len(), ad2.len(), msg.len());
+            format!(
+                "{variant:?}, key {key}, nonce {nonce}, secret {secret}, \
+                 ad {ad1} + {ad2}, msg {msg}, out {out_len}"
+            )
+        };
+
+        let (key, nonce, secret) = (&BYTES[..key], &BYTES[..nonce], &BYTES[..secret]);
+        let out = if out_len > LARGE {
+            &mut large
+        } else {
+            &mut small
+        };
+        let lent = out.first(out_len);
+        let number = c_calls::seal(variant, key, nonce, secret, ad1, ad2, msg, lent);
+        assert_eq!(number, first_to_hold(&order), "{}", what());
+        if number == 0 {
+            let ad = [ad1, ad2].concat();
+            let sealed = words::seal(variant, key, nonce, secret, &ad, msg);
+            out.check_written(&sealed, &what);
+            *out = Lent::new(LARGE);
+        } else {
+            out.check_untouched(&what);
+        }
+    }
+    // All six are free of each other.
+    assert_eq!(subsets.len(), 1 << 6);
+}
+
+/// A sealed message as it is lent to opening.
+struct Sealed {
+    bytes: Vec<u8>,
+    /// Its tag was changed.
+    changed: bool,
+    /// It was sealed with associated data above the maximum.
+    ad_over: bool,
+}
+
+/// Sealed messages: with a short message and with one above the maximum, each
+/// with its right tag and with a changed one; and some that are too short.
+fn sealed_messages(variant: Variant) -> Vec<Sealed> {
+    let sizes = variant.sizes();
+    let key = &BYTES[..sizes.key];
+    let nonce = &BYTES[..sizes.nonce];
+    let secret = &BYTES[..sizes.secret];
+    let mut all = Vec::new();
+    for ad_over in [false, true] {
+        let (ad1, ad2) = associated_data()[usize::from(ad_over)];
+        let ad = [ad1, ad2].concat();
+        let mut add = |bytes, changed| {
+            all.push(Sealed {
+                bytes,
+                changed,
+                ad_over,
+            })
+        };
+        for msg_over in [false, true] {
+            let right = words::seal(variant, key, nonce, secret, &ad, message(msg_over));
+            let mut wrong = right.clone();
+            *wrong.last_mut().unwrap() ^= 0x80;
+            add(right, false);
+            add(wrong, true);
+        }
+        for length in [0, 1, variant.overhead() - 1] {
+            add(BYTES[..length].to_vec(), false);
+        }
+    }
+    all
+}
+
+fn open_in_the_order_1_2_4_6_5_7(variant: Variant) {
+    let sizes = variant.sizes();
+    let keys = lengths(sizes.key);
+    let nonces = lengths(sizes.nonce);
+    let ads = associated_data();
+    let sealed_messages = sealed_messages(variant);
+    let needed_info = variant.info_bytes();
+    let infos = [needed_info, needed_info - 1, needed_info + 3, 0];
+    let mut small = Lent::new(LARGE);
+    let mut large = Lent::new(OVER + 3);
+    let mut info = Lent::new(LARGE);
+    let mut subsets = HashSet::new();
+
+    let limits = [
+        keys.len(),
+        nonces.len(),
+        ads.len(),
+        sealed_messages.len(),
+        4,
+        4,
+    ];
+    for [k, n, a, s, o, i] in choices(limits) {
+        let (key, nonce, info_len) = (keys[k], nonces[n], infos[i]);
+        let (ad1, ad2) = ads[a];
+        let ad_over = ad1.len() + ad2.len() > MAXIMUM;
+        let sealed = &sealed_messages[s];
+        // A sealed message that is too short implies no message; the output
+        // then has any length.
+        let implied = sealed.bytes.len().checked_sub(variant.overhead());
+        let out_len = match implied {
+            Some(msg_len) => [msg_len, msg_len - 1, msg_len + 3, 0][o],
+            None => [0, 1, 10, 60][o],
+        };
+        // The tag is right or wrong with the associated data it was made with.
+        if ad_over != sealed.ad_over || is_left_out(out_len, o, &[k, n, a, i]) {
+            continue;
+        }
+
+        let order = [
+            (1, key != sizes.key),
+            (2, nonce != sizes.nonce),
+            (4, ad_over),
+            (4, implied.is_some_and(|msg_len| msg_len > MAXIMUM)),
+            (6, implied.is_none()),
+            (5, implied.is_some_and(|msg_len| out_len < msg_len)),
+            (5, info_len < needed_info),
+            (7, sealed.changed),
+        ];
+        subsets.insert(order);
+        let what = || {
+            let (ad1, ad2) = (ad1.len(), ad2.len());
+            let (sealed, changed) = (sealed.bytes.len(), sealed.changed);
+            format!(
+                "{variant:?}, key {key}, nonce {nonce}, ad {ad1} + {ad2}, \
+                 sealed {sealed} (changed {changed}), out {out_len}, info {info_len}"
+            )
+        };
+
+        let (key, nonce) = (&BYTES[..key], &BYTES[..nonce]);
+        let out = if out_len > LARGE {
+            &mut large
+        } else {
+            &mut small
+        };
+        let (lent, lent_info) = (out.first(out_len), info.first(info_len));
+        let number = c_calls::open(
+            variant,
+            key,
+            nonce,
+            ad1,
+            ad2,
+            &sealed.bytes,
+            lent,
+            lent_info,
+        );
+        assert_eq!(number, first_to_hold(&order), "{}", what());
+        if number == 0 {
+            out.check_written(message(false), &what);
+            let secret = &BYTES[..sizes.secret];
+            info.check_written(&info_written(message(false).len(), secret), &what);
+            *out = Lent::new(LARGE);
+            info = Lent::new(LARGE);
+        } else {
+            out.check_untouched(&what);
+            info.check_untouched(&what);
+        }
+    }
+    // Key, nonce, associated data, message above the maximum, output, info and
+    // tag are free of each other. A sealed message that is too short has no
+    // message above the maximum, no output too short for it, and no tag.
+    assert_eq!(subsets.len(), (1 << 7) + (1 << 4));
+}
+
+/// Data of just the maximum is not refused with 4, so that the next number in
+/// the order shows, without long work.
+fn the_maximum_itself_is_not_4(variant: Variant) {
+    let sizes = variant.sizes();
+    let key = &BYTES[..sizes.key];
+    let nonce = &BYTES[..sizes.nonce];
+    let secret = &BYTES[..sizes.secret];
+    let most = &ZEROS[..MAXIMUM];
+    let few = &BYTES[..3];
+    for (ad1, ad2) in [few.split_at(1), most.split_at(MAXIMUM), most.split_at(5)] {
+        for msg in [few, most] {
+            let (ads, length) = (ad1.len() + ad2.len(), msg.len());
+            let what = || format!("{variant:?}, ad {ads}, msg {length}");
+            let mut out = Lent::new(2);
+            let lent = out.slice();
+            let number = c_calls::seal(variant, key, nonce, secret, ad1, ad2, msg, lent);
+            assert_eq!(number, 5, "{}", what());
+            out.check_untouched(&what);
+
+            let sealed = vec![0; length + variant.overhead()];
+            let mut info = Lent::new(variant.info_bytes());
+            let (lent, lent_info) = (out.slice(), info.slice());
+            let number = c_calls::open(variant, key, nonce, ad1, ad2, &sealed, lent, lent_info);
+            assert_eq!(number, 5, "{}", what());
+
+            let below = &sealed[..variant.overhead() - 1];
+            let (lent, lent_info) = (out.slice(), info.slice());
+            let number = c_calls::open(variant, key, nonce, ad1, ad2, below, lent, lent_info);
+            assert_eq!(number, 6, "{}", what());
+            out.check_untouched(&what);
+            info.check_untouched(&what);
+        }
+    }
+}
+
+for_each_variant!(
+    seal_in_the_order_1_2_3_4_5,
+    open_in_the_order_1_2_4_6_5_7,
+    the_maximum_itself_is_not_4,
+);
+
+#[test]
+fn choices_are_all_different() {
+    let all: HashSet<[usize; 3]> = choices([2, 3, 4]).collect();
+    assert_eq!(all.len(), 24);
+    assert!(all.contains(&[0, 0, 0]) && all.contains(&[1, 2, 3]));
+    assert_eq!(choices([2, 3, 4]).count(), 24);
+}
