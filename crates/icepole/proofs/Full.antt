@@ -113,3 +113,7 @@ module _ (d : Bytes) (i w : ℕ) (h : i + 8 * (w + 1) ≤ length d) (hw : w < 20
 
     pub word-decrypt : bytesOf t ≡ xorWith v (v ⊕ take (8 * w) (drop i d)) → o₂ ≡ putBytes o to (v ⊕ take (8 * (w + 1)) (drop i d))
     word-decrypt e = out (turn-decrypt t ht w hw v hv (take (8 * w) (drop i d)) (take 8 (drop (i + 8 * w) d)) lp k hk e)
+
+-- ---- a count of words that the compiler knows
+pub count-known : {A : Type 0} (F : ℕ → A) (x : A) (k n : ℕ) → n ≡ k → x ≡ F k → x ≡ F n
+count-known F x k n e h = h ∙ ap F (sym e)

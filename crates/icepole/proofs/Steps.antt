@@ -12,7 +12,6 @@ use native.Mathlib.Numerals.{add-one}
 use lib.Seq.{length-take-le, take-suc, getD-drop}
 use borrow.Author.Tests.{eq-eqb, ne-eqb, eqb-true, eqb-false}
 use Rattle.bytes_le.specs.Bytes.{Bytes}
-use Rattle.permutation.specs.State.{at}
 use Rattle.state_bytes.specs.StateBytes.{permuted}
 use Rattle.icepole.specs.Sealing.{_⊕_, absorb, pick, same, xorWith}
 use Rattle.icepole.proofs.Xor.{getD-xor-with, length-xor, xor-cancel, xor-snoc, xor-with-set, xor-with-snoc}

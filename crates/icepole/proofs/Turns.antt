@@ -9,7 +9,6 @@ use lib.Seq.{length-take-le, take-at, drop-at, drop-append-add, drop-drop, take-
 use types.Run.{from}
 use Rattle.bytes_le.specs.Bytes.{Bytes, putBytes}
 use Rattle.permutation.specs.Permutation.{R}
-use Rattle.permutation.specs.State.{at}
 use Rattle.bytes_le.proofs.Laws.{put-put}
 use Rattle.icepole.specs.Sealing.{_⊕_, absorb, absorbAssociated, absorbMessage, decrypt, encrypt}
 use Rattle.icepole.proofs.Blocks.{associated-last, associated-more, checked-last, checked-more, decrypt-last, decrypt-more, encrypt-last, encrypt-more, message-last, message-more}

@@ -186,7 +186,7 @@ fn decrypt_words(s: State, c: &[u8], at: usize, n: usize, out: &mut [u8], to: us
     finish_words(t, n, 1)
 }
 
-// ---- the same, with the count of words known to the compiler where it is 16
+// ---- the same, with the count of words known to the compiler where it is that of a variant
 fn encrypt_full(s: State, m: &[u8], at: usize, n: usize, out: &mut [u8], to: usize) -> State
     requires { ⌜ (n < 20) × (at + 8 * n ≤ length (now m)) × (to + 8 * n ≤ length (now out)) ⌝ }
     ensures { λ r. ⌜ (bytesOf r ≡ absorb (bytesOf s) (take (8 * n) (drop at (now (m .entry)))) 1)
@@ -194,6 +194,9 @@ fn encrypt_full(s: State, m: &[u8], at: usize, n: usize, out: &mut [u8], to: usi
 {
     if n == 16 {
         return encrypt_words(s, m, at, 16, out, to);
+    }
+    if n == 15 {
+        return encrypt_words(s, m, at, 15, out, to);
     }
     encrypt_words(s, m, at, n, out, to)
 }
@@ -205,6 +208,9 @@ fn verify_full(s: State, c: &[u8], at: usize, n: usize) -> State
     if n == 16 {
         return verify_words(s, c, at, 16);
     }
+    if n == 15 {
+        return verify_words(s, c, at, 15);
+    }
     verify_words(s, c, at, n)
 }
 
@@ -215,6 +221,9 @@ fn decrypt_full(s: State, c: &[u8], at: usize, n: usize, out: &mut [u8], to: usi
 {
     if n == 16 {
         return decrypt_words(s, c, at, 16, out, to);
+    }
+    if n == 15 {
+        return decrypt_words(s, c, at, 15, out, to);
     }
     decrypt_words(s, c, at, n, out, to)
 }
@@ -316,6 +325,18 @@ fn decrypt_bytes(
         j += 1;
     }
     finish_bytes(b, n, frame)
+}
+
+// The message of the last block of a ciphertext is put into out from index to on.
+fn decrypt_last(v: [u8; 160], c: &[u8], at: usize, n: usize, out: &mut [u8], to: usize)
+    requires { ⌜ (at + n ≤ length (now c)) × (n < 160) × (to + n ≤ length (now out)) ⌝ }
+    ensures { λ _. ⌜ now (out .exit) ≡ putBytes (now (out .entry)) to (v ⊕ take n (drop at (now (c .entry)))) ⌝ }
+{
+    let mut j: usize = 0;
+    while j < n {
+        out[to + j] = v[j] ^ c[at + j];
+        j += 1;
+    }
 }
 
 // Whether the tag of v is the 16 bytes of c from index at on. It takes the same time wherever they differ.
@@ -426,7 +447,7 @@ fn decrypt_message(v: State, n: usize, c: &[u8], from: usize, l: usize, out: &mu
         s = t;
         at += r;
     }
-    decrypt_bytes(state_bytes::to_bytes(s), c, from + at, l - at, 0, out, at);
+    decrypt_last(state_bytes::to_bytes(s), c, from + at, l - at, out, at);
 }
 
 // The bytes of a sealed message. All sizes fit.

@@ -7,7 +7,6 @@ use native.Mathlib.Omega.{arith}
 use borrow.Author.Needs.{needs}
 use lib.ListN.{length, take, drop, length-append}
 use Rattle.bytes_le.specs.Bytes.{Bytes}
-use Rattle.permutation.specs.State.{at}
 use Rattle.state_bytes.specs.StateBytes.{bytesOf}
 use Rattle.icepole.specs.Sealing.{absorb, absorbAssociated}
 use Rattle.icepole.proofs.Turns.{associated-end, associated-turn}

@@ -6,9 +6,7 @@ use Prim.Native.Nat.{_+_}
 use native.Mathlib.Omega.{arith}
 use borrow.Author.Needs.{needs}
 use lib.ListN.{length, take, drop, length-append}
-use types.Kit.{frame}
 use Rattle.bytes_le.specs.Bytes.{Bytes}
-use Rattle.permutation.specs.State.{at}
 use Rattle.icepole.proofs.Steps.{length-part, padded}
 use Rattle.icepole.proofs.absorb_bytes.Statement.{statement}
 use Rattle.icepole.proofs.absorb_bytes.Tie as tie

@@ -6,7 +6,6 @@ use Prim.Native.Nat.{_*_}
 use lib.ListN.{take, drop}
 use borrow.Author.Needs.{needs}
 use Rattle.bytes_le.specs.Bytes.{Bytes}
-use Rattle.permutation.specs.State.{at}
 use Rattle.state_bytes.specs.StateBytes.{bytesOf}
 use Rattle.icepole.specs.Sealing.{absorb}
 use Rattle.icepole.proofs.Turns.{in-first, in-second}

@@ -7,12 +7,11 @@ use borrow.Author.Needs.{needs}
 use lib.ListN.{length, take, drop}
 use types.Run.{from}
 use Rattle.bytes_le.specs.Bytes.{Bytes, putBytes}
-use Rattle.permutation.specs.State.{at}
 use Rattle.state_bytes.specs.StateBytes.{bytesOf}
 use Rattle.bytes_le.proofs.Laws.{put-none}
 use Rattle.state_bytes.proofs.Lengths.{length-bytes}
 use Rattle.icepole.specs.Sealing.{_⊕_, absorb, decrypt}
-use Rattle.icepole.proofs.Blocks.{length-decrypt}
+use Rattle.icepole.proofs.Blocks.{decrypt-last, length-decrypt}
 use Rattle.icepole.proofs.Steps.{length-part}
 use Rattle.icepole.proofs.Turns.{decrypt-end, decrypt-turn, window}
 use Rattle.icepole.proofs.decrypt_message.Statement.{statement}
@@ -52,7 +51,7 @@ loop-again c =
 
 returns : tie.Need-returns Inv-loop μ-loop
 returns c =
-    let q = c .before .before .decrypt-bytes in
+    let q = c .before .before .decrypt-last in
     let y = c .before .before .before .before .to-bytes .ensures in
     let i = c .before .before .before .before .before in
     let l = i .before in
@@ -67,7 +66,7 @@ returns c =
     let w = window (a .c .now) (a .from) (a .l) (l .loop .at) (a .l - l .loop .at) (omega arith) (omega arith) in
     let z : 0 + l .loop .at ≡ l .loop .at = omega arith in
     decrypt-end r (omega arith) d (l .loop .at) (omega arith) s (length-bytes (l .loop .s)) (a .out .now) (l .loop .out) _ (decrypt r v d) 0 lp (omega arith) (l .loop .inv .2) k (omega arith) (rw ld refl) (i .loop-test .left) (l .loop .inv .1)
-    (q .ensures .1
+    (q .ensures
     ∙ ap (λ (s : Bytes). putBytes (l .loop .out) (l .loop .at) (s ⊕ take k (drop (a .from + l .loop .at) (a .c .now)))) y
     ∙ ap₂ (λ (k : ℕ) (b : Bytes). putBytes (l .loop .out) k (s ⊕ b)) (sym z) w)
 

@@ -6,9 +6,7 @@ use native.Mathlib.Omega.{arith}
 use borrow.Author.Needs.{needs}
 use lib.Bits.{bitXor}
 use lib.ListN.{length, take, drop, getD, set, length-set}
-use types.Kit.{frame}
 use Rattle.bytes_le.specs.Bytes.{Bytes, putBytes}
-use Rattle.permutation.specs.State.{at}
 use Rattle.bytes_le.proofs.Laws.{put-none, put-snoc}
 use Rattle.icepole.specs.Sealing.{_⊕_, xorWith}
 use Rattle.icepole.proofs.Steps.{length-part, padded, xor-more, xor-none, xor-with-more}

@@ -6,7 +6,6 @@ use native.Mathlib.Omega.{arith}
 use borrow.Author.Needs.{needs}
 use lib.ListN.{length, take, drop}
 use Rattle.bytes_le.specs.Bytes.{putBytes}
-use Rattle.permutation.specs.State.{at}
 use Rattle.state_bytes.specs.StateBytes.{bytesOf}
 use Rattle.bytes_le.proofs.Laws.{put-none}
 use Rattle.state_bytes.proofs.Lengths.{length-bytes}

@@ -6,7 +6,6 @@ use native.Mathlib.Omega.{arith}
 use borrow.Author.Needs.{needs}
 use lib.Dec.{eqb}
 use lib.ListN.{length, take, drop}
-use Rattle.permutation.specs.State.{at}
 use Rattle.icepole.specs.Sealing.{same}
 use Rattle.icepole.proofs.Steps.{same-more}
 use Rattle.icepole.proofs.tag_matches.Statement.{statement}

@@ -5,8 +5,6 @@ use Prim.Native.Nat.{ℕ, _+_, _-_, _<_, _≤_}
 use native.Mathlib.Omega.{arith}
 use borrow.Author.Needs.{needs}
 use lib.ListN.{length, take, drop}
-use types.Kit.{frame}
-use Rattle.permutation.specs.State.{at}
 use Rattle.icepole.specs.Sealing.{_⊕_, xorWith}
 use Rattle.icepole.proofs.Steps.{length-part, padded, set-more, xor-with-none}
 use Rattle.icepole.proofs.Xor.{length-xor}

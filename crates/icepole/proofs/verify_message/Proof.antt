@@ -7,7 +7,6 @@ use borrow.Author.Needs.{needs}
 use lib.ListN.{length, take, drop}
 use types.Run.{from}
 use Rattle.bytes_le.specs.Bytes.{Bytes}
-use Rattle.permutation.specs.State.{at}
 use Rattle.state_bytes.specs.StateBytes.{bytesOf}
 use Rattle.state_bytes.proofs.Lengths.{length-bytes}
 use Rattle.icepole.specs.Sealing.{_⊕_, absorb, absorbMessage, decrypt}

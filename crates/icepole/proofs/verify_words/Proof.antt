@@ -5,7 +5,6 @@ use Prim.Native.Nat.{ℕ, _+_, _-_, _*_, _<_, _≤_}
 use native.Mathlib.Omega.{arith}
 use borrow.Author.Needs.{needs}
 use lib.ListN.{length, take, drop}
-use Rattle.permutation.specs.State.{at}
 use Rattle.state_bytes.specs.StateBytes.{bytesOf}
 use Rattle.state_bytes.proofs.Lengths.{length-bytes}
 use Rattle.state_bytes.proofs.View.{shape}

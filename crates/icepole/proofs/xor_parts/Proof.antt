@@ -6,7 +6,6 @@ use Prim.Native.Nat.{ℕ, _+_, _-_, _<_, _≤_}
 use native.Mathlib.Omega.{arith}
 use borrow.Author.Needs.{needs}
 use lib.ListN.{length, take, drop, length-append}
-use Rattle.permutation.specs.State.{at}
 use Rattle.icepole.specs.Sealing.{xorWith}
 use Rattle.icepole.proofs.Steps.{xor-with-more}
 use Rattle.icepole.proofs.xor_parts.Statement.{statement}
