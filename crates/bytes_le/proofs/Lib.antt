@@ -1,3 +1,3 @@
-
 pub mod Laws
 pub mod Loads
+pub mod All

@@ -1,12 +1,16 @@
 -- Bytes in a buffer, and numbers as little-endian bytes (01: "All multi-byte numbers are little-endian").
 -- Assumes nothing.
 use mathlib.Core.List.{List, [], _∷_, _++_}
-use Prim.Native.Nat.{ℕ, zero, suc, _+_, _*_, _/_, _%_}
+use Prim.Native.Nat.{ℕ, zero, suc, _+_, _*_, _/_, _%_, _<_}
 use lib.ListN.{length, take, drop}
 
--- numbers below 256
+-- runs of bytes, as numbers; where it matters that they are below 256, `AllBytes` says so
 abbrev pub Bytes : Type 0
 Bytes = List ℕ
+
+abbrev pub AllBytes : Bytes → Type 0
+AllBytes [] = Unit {0}
+AllBytes (b ∷ bs) = (b < 256) × AllBytes bs
 
 -- b with vs in the place of what stood from index i on
 unfoldable pub putBytes : Bytes → ℕ → Bytes → Bytes

@@ -1,2 +1,3 @@
 pub mod Marked
 pub mod Permutation
+pub mod Demand2

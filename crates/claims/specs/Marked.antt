@@ -3,9 +3,13 @@
 use mathlib.Core.Path.{_≡_}
 use mathlib.Core.List.{List, [], _∷_, map}
 use Prim.Native.Nat.{ℕ, _^_}
+use lib.ListN.{replicate}
 use Rattle.bits.specs.Bits.{bit, number}
+use Rattle.bytes_le.specs.Bytes.{Bytes}
 use Rattle.permutation.specs.State.{State, setWord, state}
 use Rattle.permutation.specs.Permutation.{μ, ρ, π, sbox}
+use Rattle.state_bytes.specs.StateBytes.{stateOf}
+use Rattle.icepole.specs.Sealing.{xorWith, pad}
 
 -- the state with S[x][y] = w and zeros elsewhere
 abbrev pub only : ℕ → ℕ → ℕ → State
@@ -14,6 +18,10 @@ only x y w = setWord (state (λ a b. 0)) x y w
 -- the S-box on the number whose five bits are M_0, M_1, .., M_4
 abbrev pub sboxOf : ℕ → ℕ
 sboxOf n = number 5 (sbox (bit n))
+
+-- the zero state with a padded block xored in
+abbrev pub absorbed : Bytes → ℕ → State
+absorbed b frame = stateOf (xorWith (replicate 160 0) (pad b frame))
 
 pub record Row : Type 0 where
   pub given : State
@@ -37,6 +45,8 @@ marked =
     ∷ (π (only 0 0 1) is only 0 1 1)
     ∷ (π (only 3 4 1) is only 3 3 1)
     ∷ (ρ (only 1 0 (2 ^ 63)) is only 1 0 1)
+    ∷ (absorbed [] 0 is only 0 0 2)
+    ∷ (absorbed (replicate 128 0) 1 is only 0 4 3)
     ∷ []
 
 -- every row's two sides agree

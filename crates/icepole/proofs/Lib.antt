@@ -1,4 +1,3 @@
-
 pub mod Xor
 pub mod Runs
 pub mod Steps
@@ -10,3 +9,4 @@ pub mod Whole
 pub mod Bounds
 pub mod Numbers
 pub mod Answers
+pub mod OpenedBytes

@@ -143,15 +143,16 @@ seal-fits q k n s a m o e =
       out = ltb-false _ _ (p₅ .0);
     }
 
-pub record OpenFits (q : Sizes) (k n a c : ℕ) (fits : Bool) : Type 0 where
+pub record OpenFits (q : Sizes) (k n a c : ℕ) (fits agrees : Bool) : Type 0 where
   pub key : k ≡ q .key
   pub nonce : n ≡ q .nonce
   pub associated : a ≤ maxLength
   pub message : c - (q .secret + 16) ≤ maxLength
   pub sealed : q .secret + 16 ≤ c
   pub room : fits ≡ true
+  pub tag : agrees ≡ true
 
-pub open-fits : (q : Sizes) (k n a c : ℕ) (fits agrees : Bool) → openNumber q k n a c fits agrees ≡ 0 → OpenFits q k n a c fits
+pub open-fits : (q : Sizes) (k n a c : ℕ) (fits agrees : Bool) → openNumber q k n a c fits agrees ≡ 0 → OpenFits q k n a c fits agrees
 unfolding openNumber
 open-fits q k n a c fits agrees e =
     let p₁ = passed (not (eqb k (q .key))) _ _ e in
@@ -159,6 +160,7 @@ open-fits q k n a c fits agrees e =
     let p₄ = passed (ltb maxLength a || ltb maxLength (c - (q .secret + 16))) _ _ (p₂ .1) in
     let p₆ = passed (ltb c (q .secret + 16)) _ _ (p₄ .1) in
     let p₅ = passed (not fits) _ _ (p₆ .1) in
+    let p₇ = passed (not agrees) _ _ (p₅ .1) in
     let d₄ = neither (ltb maxLength a) (ltb maxLength (c - (q .secret + 16))) (p₄ .0) in
     record {
       key = eqb-true _ _ (not-false _ (p₁ .0));
@@ -167,6 +169,7 @@ open-fits q k n a c fits agrees e =
       message = ltb-false _ _ (d₄ .1);
       sealed = ltb-false _ _ (p₆ .0);
       room = not-false _ (p₅ .0);
+      tag = not-false _ (p₇ .0);
     }
 
 -- ---- a number that is not 0 stands whatever the tag, and number 0 leaves the tag to decide

@@ -6,7 +6,7 @@ use Prim.Native.Nat.{ℕ, _<_, _+_, _-_, _≤_}
 use mathlib.Core.Bool.{Bool, true, false}
 use native.Mathlib.Omega.{arith}
 use lib.Dec.{eqb, leb}
-use lib.ListN.{length, take, drop, length-append, take-append-drop}
+use lib.ListN.{length, take, drop, length-append, take-append-drop, length-drop}
 use lib.Seq.{length-take-le, take-at, drop-at, drop-drop}
 use borrow.Author.Tests.{eq-eqb, eqb-true, le-leb, leb-true}
 use mathlib.Core.Option.{Option, some, none}
@@ -14,7 +14,7 @@ use Rattle.bytes_le.specs.Bytes.{Bytes}
 use Rattle.state_bytes.proofs.Lengths.{length-permuted}
 use Rattle.icepole.specs.Sealing.{_⊕_, absorb, absorbMessage, decrypt, encrypt, expectedTag, keyed, messageOf, messagePart, opened, pick, ready, readyOf, same, sealed, secretOf, secretPart, tag, tagPart}
 use Rattle.icepole.specs.declared.Sizes.{Sizes}
-use Rattle.icepole.proofs.Blocks.{decrypt-encrypt, encrypt-decrypt, length-associated, length-encrypt, length-message}
+use Rattle.icepole.proofs.Blocks.{decrypt-encrypt, encrypt-decrypt, length-associated, length-decrypt, length-encrypt, length-message}
 use Rattle.icepole.proofs.Xor.{length-xor, xor-twice}
 
 same-self : (l : Bytes) → same l l ≡ true
@@ -89,30 +89,30 @@ module _ (q : Sizes) (hb : 0 < q .block) (hr : q .block < 160) (hs : q .secret <
     secret-part : secretPart q (sealed q k n s a m) ≡ c₀
     secret-part = rw is-sealed (take-at c₀ (c₁ ++ c₂) (q .secret) l₀)
 
-    secret-in : secretOf q k n (sealed q k n s a m) ≡ s
+    pub secret-of-sealed : secretOf q k n (sealed q k n s a m) ≡ s
     unfolding secretOf c₀
-    secret-in =
+    secret-of-sealed =
         let e : length (keyed k n) ≡ 160 = length-keyed k n in
         ap (λ (b : Bytes). keyed k n ⊕ b) secret-part ∙ xor-twice (keyed k n) s (omega arith)
 
     ready-in : readyOf q k n a (sealed q k n s a m) ≡ u
     unfolding readyOf u
-    ready-in = ap (λ (b : Bytes). ready (q .block) (keyed k n) b a) secret-in
+    ready-in = ap (λ (b : Bytes). ready (q .block) (keyed k n) b a) secret-of-sealed
 
     message-part : messagePart q (sealed q k n s a m) ≡ c₁
     message-part =
         let e : length (sealed q k n s a m) - (q .secret + 16) ≡ length m = rw length-sealed (omega arith) in
         rw (e, is-sealed, drop-at c₀ (c₁ ++ c₂) (q .secret) l₀) (take-at c₁ c₂ (length m) l₁)
 
-    message-in : messageOf q k n a (sealed q k n s a m) ≡ m
+    pub message-of-sealed : messageOf q k n a (sealed q k n s a m) ≡ m
     unfolding messageOf c₁ u
-    message-in =
+    message-of-sealed =
         ap₂ (decrypt (q .block)) ready-in message-part
         ∙ decrypt-encrypt (q .block) hb hr m (ready (q .block) (keyed k n) s a) (length-ready (keyed k n) s a)
 
     tag-in : expectedTag q k n a (sealed q k n s a m) ≡ c₂
     unfolding expectedTag c₂ u
-    tag-in = ap₂ (λ (w b : Bytes). tag (absorbMessage (q .block) w b)) ready-in message-in
+    tag-in = ap₂ (λ (w b : Bytes). tag (absorbMessage (q .block) w b)) ready-in message-of-sealed
 
     tag-part : tagPart (sealed q k n s a m) ≡ c₂
     tag-part =
@@ -122,12 +122,30 @@ module _ (q : Sizes) (hb : 0 < q .block) (hr : q .block < 160) (hs : q .secret <
         ∙ ap (drop (length m)) (drop-at c₀ (c₁ ++ c₂) (q .secret) l₀) ∙ drop-at c₁ c₂ (length m) l₁ in
         rw (e, is-sealed) d
 
+    pub tag-of-sealed : same (expectedTag q k n a (sealed q k n s a m)) (tagPart (sealed q k n s a m)) ≡ true
+    tag-of-sealed = simp (tag-in, tag-part, same-self c₂)
+
     -- opening what sealing gives
     pub open-seal : opened q k n a (sealed q k n s a m) ≡ some (s, m)
     unfolding opened
     open-seal =
         let h : q .secret + 16 ≤ length (sealed q k n s a m) = rw length-sealed (omega arith) in
-        simp (le-leb (q .secret + 16) (length (sealed q k n s a m)) h, tag-in, tag-part, same-self c₂, secret-in, message-in)
+        simp (le-leb (q .secret + 16) (length (sealed q k n s a m)) h, tag-in, tag-part, same-self c₂, secret-of-sealed, message-of-sealed)
+
+  -- the lengths of what a sealed message holds
+  module _ (k n a c : Bytes) (h : q .secret + 16 ≤ length c) where
+    pub length-secret-of : length (secretOf q k n c) ≡ q .secret
+    unfolding secretOf
+    length-secret-of =
+        let l : length (take (q .secret) c) ≡ q .secret = length-take-le (q .secret) c (omega arith) in
+        let lk : length (keyed k n) ≡ 160 = length-keyed k n in
+        length-xor (keyed k n) (take (q .secret) c) (omega arith) ∙ l
+
+    pub length-message-of : length (messageOf q k n a c) ≡ length c - (q .secret + 16)
+    unfolding messageOf readyOf
+    length-message-of =
+        length-decrypt (q .block) hb hr (messagePart q c) _ (length-ready (keyed k n) (secretOf q k n c) a)
+        ∙ length-take-le (length c - (q .secret + 16)) (drop (q .secret) c) (rw length-drop (omega arith))
 
   first : Option (Bytes × Bytes) → Bytes
   first none = []

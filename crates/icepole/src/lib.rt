@@ -407,15 +407,8 @@ fn encrypt_message(v: State, n: usize, m: &[u8], out: &mut [u8], to: usize) -> S
         s = t;
         at += r;
     }
-    encrypt_bytes(
-        state_bytes::to_bytes(s),
-        m,
-        at,
-        m.len() - at,
-        0,
-        out,
-        to + at,
-    )
+    let b = state_bytes::to_bytes(s);
+    encrypt_bytes(b, m, at, m.len() - at, 0, out, to + at)
 }
 
 // The state after the message of l bytes of ciphertext from index from on. A block has n words.

@@ -9,11 +9,10 @@ use native.Mathlib.Nat.{sub-zero}
 use borrow.Author.Tests.{ne-eqb, le-leb, lt-leb}
 use lib.Dec.{leb}
 use lib.ListN.{length, take, replicate}
-use lib.Seq.{length-take-le}
 use mathlib.Core.Option.{some}
 use Rattle.bytes_le.specs.Bytes.{Bytes, le, putBytes}
 use Rattle.icepole.specs.Answers.{fitsOutput, openAnswer, openLength, openNumber, openOutput, openRefusal, openedAnswer, refusal, sealAnswer, sealRefusal, tagAgrees}
-use Rattle.icepole.specs.Sealing.{keyed, sealed, secretOf}
+use Rattle.icepole.specs.Sealing.{sealed, secretOf}
 use Rattle.icepole.specs.Variants.{sizes}
 use Rattle.icepole.specs.declared.Opened.{Opened}
 use Rattle.icepole.specs.declared.Sealed.{Sealed}
@@ -23,8 +22,7 @@ use Rattle.bytes_le.proofs.Laws.{length-put, put-put, take-put}
 use Rattle.icepole.proofs.Answers.{open-refused}
 use Rattle.icepole.proofs.Bounds.{bounded}
 use Rattle.icepole.proofs.Numbers.{OpenFits, open-fits}
-use Rattle.icepole.proofs.Opening.{length-keyed}
-use Rattle.icepole.proofs.Xor.{length-xor}
+use Rattle.icepole.proofs.Opening.{length-secret-of}
 use Rattle.icepole_c.specs.Calls.{callInfo, callOutput, callRefusal, fitsBoth}
 
 pub seal-refusal : (v : Variant) (k n s a m o : Bytes) (r : Sealed) → r ≡ sealAnswer v k n s a m o → r .refusal ≡ sealRefusal v k n s a m o
@@ -82,16 +80,14 @@ module _ (v : Variant) (k n a c o t : Bytes) (r : Opened) (e : r ≡ openAnswer 
     unfolding openAnswer
     answered = e ∙ ap (λ (i : ℕ). openedAnswer i (openLength v k n a c) (secretOf (sizes v) k n c)) (sym refusal-is ∙ z)
 
-    fits : OpenFits (sizes v) (length k) (length n) (length a) (length c) (fitsOutput v k n a c o)
+    fits : OpenFits (sizes v) (length k) (length n) (length a) (length c) (fitsOutput v k n a c o) (tagAgrees (sizes v) k n a c)
     unfolding openRefusal
     fits = open-fits (sizes v) (length k) (length n) (length a) (length c) (fitsOutput v k n a c o) (tagAgrees (sizes v) k n a c) (sym refusal-is ∙ z)
 
     length-secret : length (secretOf (sizes v) k n c) ≡ sizes v .secret
-    unfolding secretOf
     length-secret =
-        let l : length (take (sizes v .secret) c) ≡ sizes v .secret = length-take-le (sizes v .secret) c (omega (arith, fits .sealed)) in
-        let lk : length (keyed k n) ≡ 160 = length-keyed k n in
-        length-xor (keyed k n) (take (sizes v .secret) c) (omega (arith, bounded v .secret)) ∙ l
+        let h = bounded v in
+        length-secret-of (sizes v) (h .some) (h .block) (omega (arith, h .secret)) k n a c (fits .sealed)
 
     pub length-got : length (r .secret) ≡ 16
     length-got =

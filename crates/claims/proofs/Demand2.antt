@@ -1,0 +1,126 @@
+-- Demand 2, by the laws of sealing and opening, for the three variants at once.
+-- Assumes nothing.
+use mathlib.Core.Path.{_≡_, refl, sym, ap, ap₂, _∙_}
+use mathlib.Core.Bool.{Bool, true}
+use mathlib.Core.Option.{some}
+use Prim.Native.Nat.{ℕ, _+_, _≤_, _<_}
+use native.Mathlib.Omega.{arith}
+use borrow.Author.Tests.{le-leb, leb-true}
+use lib.ListN.{length}
+use denote.Steps.{opens}
+use Rattle.bytes_le.specs.Bytes.{Bytes, putBytes}
+use Rattle.icepole.specs.Answers.{fitsOutput, openAnswer, openLength, openNumber, openOutput, openRefusal, sealAnswer, sealOutput, sealRefusal, tagAgrees}
+use Rattle.icepole.specs.Bounds.{Bounded}
+use Rattle.icepole.specs.Sealing.{expectedTag, messageOf, opened, same, sealed, secretOf, tag, tagPart}
+use Rattle.icepole.specs.Variants.{sizes}
+use Rattle.icepole.specs.declared.Variant.{Variant}
+use Rattle.bytes_le.proofs.Loads.{fits}
+use Rattle.icepole.proofs.Bounds.{bounded}
+use Rattle.icepole.proofs.Numbers.{OpenFits, open-0, open-fits, seal-0}
+use Rattle.icepole.proofs.OpenedBytes.{message-bytes, secret-bytes}
+use Rattle.icepole.proofs.Opening.{length-message-of, length-sealed, length-secret-of, message-of-sealed, seal-open, secret-of-sealed, tag-of-sealed}
+use Rattle.claims.specs.Demand2.{Demand2, Genuine, Within, openDone, sealDone}
+use Rattle.claims.specs.Marked.{only}
+
+module _ (v : Variant) where
+  h : Bounded (sizes v)
+  h = bounded v
+
+  less : sizes v .secret < 160
+  less = omega (arith, bounded v .secret)
+
+  module _ (k n s a m : Bytes) (w : Within v k n s a m) where
+    c : Bytes
+    c = sealed (sizes v) k n s a m
+
+    pub length-of : length (sealed (sizes v) k n s a m) ≡ sizes v .secret + (length m + 16)
+    length-of = length-sealed (sizes v) (bounded v .some) (bounded v .block) less k n s a m (w .secret-length)
+
+    pub seal-does : (out : Bytes) → sizes v .secret + (length m + 16) ≤ length out
+        → (sealAnswer v k n s a m out ≡ sealDone (sizes v .secret + (length m + 16))) × (sealOutput v k n s a m out ≡ putBytes out 0 (sealed (sizes v) k n s a m))
+    unfolding sealAnswer sealOutput sealRefusal
+    seal-does out r =
+        let z = sym
+        (seal-0 (sizes v) (length k) (length n) (length s) (length a) (length m) (length out) (w .key-length) (w .nonce-length) (w .secret-length) (w .associated-length) (w .message-length) r) in
+        (simp z, simp z)
+
+    is-length : openLength v k n a (sealed (sizes v) k n s a m) ≡ length m
+    is-length = rw length-of (omega arith)
+
+    agree : tagAgrees (sizes v) k n a (sealed (sizes v) k n s a m) ≡ true
+    unfolding tagAgrees
+    agree = tag-of-sealed (sizes v) (bounded v .some) (bounded v .block) less k n s a m (w .secret-length)
+
+    accepted : (fits : Bool) → fits ≡ true → openRefusal v k n a (sealed (sizes v) k n s a m) fits ≡ 0
+    unfolding openRefusal
+    accepted fits e =
+        ap (openNumber (sizes v) (length k) (length n) (length a) (length (sealed (sizes v) k n s a m)) fits) agree
+        ∙ sym
+        (open-0 (sizes v) (length k) (length n) (length a) (length (sealed (sizes v) k n s a m)) fits (w .key-length) (w .nonce-length) (w .associated-length)
+        (omega (arith, length-of, w .message-length)) (omega (arith, length-of)) e)
+
+    pub open-does : (fits : Bool) → fits ≡ true
+        → (openAnswer v k n a (sealed (sizes v) k n s a m) fits ≡ openDone (length m) s)
+        × ((out : Bytes) → openOutput v k n a (sealed (sizes v) k n s a m) fits out ≡ putBytes out 0 m)
+    unfolding openAnswer openOutput
+    open-does fits e =
+        let z = accepted fits e in
+        let es = secret-of-sealed (sizes v) (bounded v .some) (bounded v .block) less k n s a m (w .secret-length) in
+        let em = message-of-sealed (sizes v) (bounded v .some) (bounded v .block) less k n s a m (w .secret-length) in (
+          simp z (ap₂ openDone is-length es),
+          λ out. simp z (ap (putBytes out 0) em),
+        )
+
+    pub fits-out : (out : Bytes) → length m ≤ length out → fitsOutput v k n a (sealed (sizes v) k n s a m) out ≡ true
+    fits-out out r = le-leb (openLength v k n a (sealed (sizes v) k n s a m)) (length out) (rw is-length r)
+
+  module _ (k n a c out : Bytes) (e : openRefusal v k n a c (fitsOutput v k n a c out) ≡ 0) where
+    facts : OpenFits (sizes v) (length k) (length n) (length a) (length c) (fitsOutput v k n a c out) (tagAgrees (sizes v) k n a c)
+    unfolding openRefusal
+    facts = open-fits (sizes v) (length k) (length n) (length a) (length c) (fitsOutput v k n a c out) (tagAgrees (sizes v) k n a c) e
+
+    abbrev s : Bytes
+    s = secretOf (sizes v) k n c
+
+    abbrev m : Bytes
+    m = messageOf (sizes v) k n a c
+
+    it-opens : opened (sizes v) k n a c ≡ some (secretOf (sizes v) k n c, messageOf (sizes v) k n a c)
+    unfolding opened tagAgrees
+    it-opens =
+        let t : same (expectedTag (sizes v) k n a c) (tagPart c) ≡ true = facts .tag in
+        simp (le-leb (sizes v .secret + 16) (length c) (facts .sealed), t)
+
+    pub genuine : Genuine v k n a c out
+    unfolding openAnswer openOutput
+    genuine =
+        let f = facts in
+        let ls = length-secret-of (sizes v) (bounded v .some) (bounded v .block) less k n a c (f .sealed) in
+        let lm = length-message-of (sizes v) (bounded v .some) (bounded v .block) less k n a c (f .sealed) in
+        let r = leb-true (openLength v k n a c) (length out) (f .room) in
+        record {
+          secret = s;
+          message = m;
+          within = record {
+            key-length = f .key;
+            nonce-length = f .nonce;
+            secret-length = ls;
+            associated-length = f .associated;
+            message-length = rw lm (f .message);
+          };
+          room = rw lm r;
+          sealed-is = seal-open (sizes v) (bounded v .some) (bounded v .block) less k n a c s m it-opens;
+          answer = simp e (ap (λ (i : ℕ). openDone i (secretOf (sizes v) k n c)) (sym lm));
+          output = simp e;
+        }
+
+pub demand2 : Demand2
+demand2 =
+    record {
+      seals = λ v k n s a m out w r. seal-does v k n s a m w out r;
+      sealed-length = length-of;
+      opens = λ v k n s a m out w r. let x = open-does v k n s a m w _ (fits-out v k n s a m w out r) in (x .0, x .1 out);
+      verifies = λ v k n s a m w. open-does v k n s a m w true refl .0;
+      only = genuine;
+      gives-bytes = λ v k n a c hc. (secret-bytes (sizes v) k n a c hc, message-bytes (sizes v) k n a c hc);
+    }
