@@ -28,7 +28,6 @@ crates_listed() {
 
 # The last line 'N passed, M failed' of rt ci. A run without one, or whose exit status and line disagree, is a failure.
 prove() {
-    mkdir -p build
     rt ci >build/rt-ci.log 2>&1
     status=$?
     grep -E '^rt: |NOT PROVED|error' build/rt-ci.log | cut -c1-200
@@ -59,9 +58,27 @@ rust_tests() {
     fi
 }
 
+# The C program of the tests, compiled with the header as a firmware author would, and run under valgrind with buffers of the exact size.
+c_program() {
+    gcc -std=c11 -Wall -Wextra -Werror -pedantic -g -Iinclude tests/c_calls/c/roundtrip.c target/staticlib/libicepole_c.a -o build/roundtrip &&
+        build/roundtrip || return 1
+    if command -v valgrind >/dev/null; then
+        valgrind -q --error-exitcode=1 --leak-check=full build/roundtrip
+    else
+        echo "valgrind is not here: the C program ran without it"
+    fi
+}
+
+lib() {
+    make -s lib >build/lib.log 2>&1 || { cat build/lib.log; return 1; }
+}
+
+mkdir -p build
 step "every crate is listed" crates_listed
 step "rt fmt --check" rt fmt --check
 prove
+step "make lib" lib
+step "the C program" c_program
 rust_tests
 echo "$passed passed, $failed failed" | tee build/result
 [ "$failed" -eq 0 ]

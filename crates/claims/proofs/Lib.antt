@@ -1,3 +1,4 @@
 pub mod Marked
 pub mod Permutation
+pub mod PaperBits
 pub mod Demand2

@@ -6,7 +6,7 @@ use Prim.Native.Nat.{ℕ, _^_}
 use lib.ListN.{replicate}
 use Rattle.bits.specs.Bits.{bit, number}
 use Rattle.bytes_le.specs.Bytes.{Bytes}
-use Rattle.permutation.specs.State.{State, setWord, state}
+use Rattle.permutation.specs.State.{Grid, State, setWord, state}
 use Rattle.permutation.specs.Permutation.{μ, ρ, π, sbox}
 use Rattle.state_bytes.specs.StateBytes.{stateOf}
 use Rattle.icepole.specs.Sealing.{xorWith, pad}
@@ -24,16 +24,16 @@ abbrev pub absorbed : Bytes → ℕ → State
 absorbed b frame = stateOf (xorWith (replicate 160 0) (pad b frame))
 
 pub record Row : Type 0 where
-  pub given : State
-  pub said : State
+  pub given : Grid
+  pub said : Grid
 
 infix 20 _is_
 -- a definition's value, and the value that the document marks
-abbrev _is_ : State → State → Row
+abbrev _is_ : Grid → Grid → Row
 a is b = record { given = a; said = b }
 
--- a lone number
-abbrev the : ℕ → State
+-- a number as a grid of one entry, so that the table has one type
+abbrev the : ℕ → Grid
 the n = (n ∷ []) ∷ []
 
 abbrev pub marked : List Row
@@ -42,8 +42,8 @@ marked =
     ∷ (the (sboxOf 0) is the 31)
     ∷ (the (sboxOf 31) is the 0)
     ∷ (the (sboxOf 1) is the 9)
-    ∷ (π (only 0 0 1) is only 0 1 1)
-    ∷ (π (only 3 4 1) is only 3 3 1)
+    ∷ (π (only 0 0 0x0123456789ABCDEF) is only 0 1 0x0123456789ABCDEF)
+    ∷ (π (only 3 4 0x0123456789ABCDEF) is only 3 3 0x0123456789ABCDEF)
     ∷ (ρ (only 1 0 (2 ^ 63)) is only 1 0 1)
     ∷ (absorbed [] 0 is only 0 0 2)
     ∷ (absorbed (replicate 128 0) 1 is only 0 4 3)

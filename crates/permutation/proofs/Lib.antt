@@ -1,4 +1,4 @@
-pub mod Words
+pub mod Bounds
 pub mod Columns
 pub mod Matrix
 pub mod Rotation

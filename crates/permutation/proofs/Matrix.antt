@@ -12,7 +12,7 @@ use Rattle.permutation.specs.Permutation.{mix, μ}
 use Rattle.permutation.specs.Words.{_⊻_}
 use Rattle.permutation.proofs.Columns.{xor64, by-positions}
 
--- the words as the code works them out, with the sums 2a + c and 2c + d written out
+-- the words as the code works them out, with the shared sums written out
 abbrev pub mixed : State → State
 mixed s =
     let S : ℕ → ℕ → ℕ = at s in

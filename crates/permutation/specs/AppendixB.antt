@@ -1,4 +1,4 @@
--- Appendix B of the paper: the equations of μ, in the order printed. `proofs/AppendixB.antt` shows that they agree with the matrix.
+-- The equations of μ, in the order printed (003, Appendix B). `proofs/AppendixB.antt` shows that they agree with the matrix.
 -- Assumes nothing.
 use mathlib.Core.Bool.{Bool, true, false, _&&_}
 use mathlib.Core.List.{List, [], _∷_}
@@ -48,14 +48,14 @@ equations S =
     ∷ (S′ 3 0 ≔ S 0 0 ⊕ S 1 1 ⊕ S 2 4 ⊕ S 3 0)
     ∷ []
 
-abbrev either : Bool → Bool → Bool → Bool
-either true a b = a
-either false a b = b
+abbrev pick : Bool → Bool → Bool → Bool
+pick true a b = a
+pick false a b = b
 
--- S'[x][y][z] by the equation that has it on its left
+-- S'[x][y][z] by the equation that has it on its left; each bit has one
 abbrev pub solved : List Equation → ℕ → ℕ → Bool
 solved [] x y = false
-solved (e ∷ es) x y = either (eqb (e .target .x) x && eqb (e .target .y) y) (e .value) (solved es x y)
+solved (e ∷ es) x y = pick (eqb (e .target .x) x && eqb (e .target .y) y) (e .value) (solved es x y)
 
 -- for all z: S := S'
 unfoldable pub appendixB : State → State

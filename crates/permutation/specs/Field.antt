@@ -1,4 +1,5 @@
--- GF(2^5): polynomials in a over GF(2), modulo a^5 + a^2 + 1 (003, 2.5). The element p has the coefficient p k at a^k, for k below 5.
+-- GF(2^5): polynomials in a over GF(2), modulo a^5 + a^2 + 1 (003, 2.5, which writes x for a). The element p has the coefficient p k at a^k, for k below 5;
+-- what it has at 5 and above is never used.
 -- Assumes nothing.
 use mathlib.Core.Bool.{Bool, false, _&&_}
 use mathlib.Core.List.{List, foldr}
@@ -33,6 +34,6 @@ timesN zero p q = λ k. false
 timesN (suc n) p q = plus (λ k. p 0 && q k) (timesA (timesN n (λ k. p (suc k)) q))
 
 infixl 36 _·_
--- p · q
+-- the product in GF(2^5) (in 003, 2.3, · is the bitwise and)
 abbrev pub _·_ : Element → Element → Element
 p · q = timesN 5 p q

@@ -48,7 +48,7 @@ x′ x y = (x + y) % 4
 abbrev pub y′ : ℕ → ℕ → ℕ
 y′ x y = ((x + y) % 4 + y + 1) % 5
 
--- the state t with S[x'][y'] := S[x][y] of s, for all x and y: every word of t is overwritten
+-- the state t with S[x'][y'] := S[x][y] of s, for all x and y: the twenty targets differ, so every word of t is overwritten
 abbrev pub moved : State → State → State
 moved s t = foldr (λ x u. foldr (λ y v. setWord v (x′ x y) (y′ x y) (at s x y)) u (tabulate 5 (λ y. y))) t (tabulate 4 (λ x. x))
 
@@ -65,7 +65,8 @@ sbox M k =
 unfoldable pub ψ : State → State
 ψ s = state (λ x y. word (λ z. sbox (slice s z x) y))
 
--- ---- κ: S[0][0] is xored with the constant of the round (Appendix A: the table decides, it does not follow from the polynomial of 2.5)
+-- ---- κ: S[0][0] is xored with the constant of the round (003, Appendix A). Read as ordinary hex numbers, although 003 says "little-endian format";
+-- the table decides, and not the polynomial of 003, 2.5 (both by 01, "The permutation")
 abbrev pub constants : List ℕ
 constants =
     0x0091A2B3C4D5E6F7
@@ -86,6 +87,7 @@ constants =
 abbrev pub addConstant : State → ℕ → State
 addConstant s c = setWord s 0 0 (bitXor (at s 0 0) c)
 
+-- of round n, below 12; from 12 on there is no constant, and no contract speaks of it
 abbrev pub κ : State → ℕ → State
 κ s n = addConstant s (getD constants n 0)
 
@@ -97,7 +99,7 @@ unfoldable pub P : ℕ → State → State
 P zero s = s
 P (suc n) s = R (P n s) n
 
--- ---- the state before key and nonce (003, 2.6): column x, rows 0 to 4
+-- ---- the state before key and nonce (003, 2.6): column x, rows 0 to 4. Ordinary hex numbers (01)
 abbrev pub start : State
 start =
     (0xFF97A42D7F8E6FD4 ∷ 0x90FEE5A0A44647C4 ∷ 0x8C5BDA0CD6192E76 ∷ 0xAD30A6F71B19059C ∷ 0x30935AB7D08FFC64 ∷ [])

@@ -1,4 +1,5 @@
--- The state S of ICEPOLE (003, 2.3): four columns of five 64-bit words, S[x][y].
+-- The state S of ICEPOLE (003, 2.3; 01, "The permutation"): four columns of five rows of 64-bit words, S[x][y]. (A "row" of 003, 2.3 is the five bits of one x and z.)
+-- That word number w is x + 4y, and its bit z the state bit 64w + z, is defined with the bytes (`state_bytes`).
 -- Assumes nothing.
 use mathlib.Core.Bool.{Bool}
 use mathlib.Core.List.{List, [], _∷_}
@@ -11,15 +12,15 @@ abbrev pub tabulate : {A : Type 0} → ℕ → (ℕ → A) → List A
 tabulate zero f = []
 tabulate (suc n) f = f 0 ∷ tabulate n (λ k. f (suc k))
 
--- columns of words; a table of the paper is one too
+-- numbers by two indices: a state and the offsets by x, then y; the matrix of μ by row, then column
 abbrev pub Grid : Type 0
 Grid = List (List ℕ)
 
--- m columns of n words, the word in column x and row y being f x y
+-- m lists of n numbers, the number at x and y being f x y
 abbrev pub grid : ℕ → ℕ → (ℕ → ℕ → ℕ) → Grid
 grid m n f = tabulate m (λ x. tabulate n (f x))
 
--- the word in column x and row y: S[x][y]
+-- the number at first index x and second index y: S[x][y]
 abbrev pub at : Grid → ℕ → ℕ → ℕ
 at s x y = getD (getD s x []) y 0
 

@@ -1,4 +1,4 @@
--- What the code does on whole words, 64 bit positions at once. Nobody has to believe this file: `proofs/` shows that it is what `Permutation` says of each bit.
+-- What private functions do on whole words, 64 bit positions at once. No public contract and no claim names this file: `proofs/` leads from it to `Permutation`.
 -- Assumes nothing.
 use mathlib.Core.List.{List, [], _∷_}
 use Prim.Native.Nat.{ℕ, _+_, _-_, _%_, _^_}
@@ -7,12 +7,8 @@ use lib.ListN.{getD}
 use Rattle.permutation.specs.State.{State, tabulate}
 use Rattle.permutation.specs.Permutation.{rotl, μ, ρ, π, ψ, addConstant}
 
-infixl 30 _∣_
 infixl 32 _⊻_
 infixl 35 _&_
-abbrev pub _∣_ : ℕ → ℕ → ℕ
-a ∣ b = bitOr a b
-
 abbrev pub _⊻_ : ℕ → ℕ → ℕ
 a ⊻ b = bitXor a b
 
@@ -29,10 +25,10 @@ Column = List ℕ
 
 -- ---- μ: at each bit position the five words hold an element of GF(2^5), the word y its coefficient at a^y
 abbrev pub twiceWords : Column → Column
-twiceWords p = let P : ℕ → ℕ = λ y. getD p y 0 in P 4 ∷ P 0 ∷ (P 1 ⊻ P 4) ∷ P 2 ∷ P 3 ∷ []
+twiceWords z = let Z : ℕ → ℕ = λ y. getD z y 0 in Z 4 ∷ Z 0 ∷ (Z 1 ⊻ Z 4) ∷ Z 2 ∷ Z 3 ∷ []
 
 abbrev pub times18Words : Column → Column
-times18Words p = let P : ℕ → ℕ = λ y. getD p y 0 in P 1 ∷ (P 2 ⊻ P 0) ∷ P 3 ∷ P 4 ∷ P 0 ∷ []
+times18Words z = let Z : ℕ → ℕ = λ y. getD z y 0 in Z 1 ∷ (Z 2 ⊻ Z 0) ∷ Z 3 ∷ Z 4 ∷ Z 0 ∷ []
 
 abbrev pub sum2Words : Column → Column → Column
 sum2Words p q = tabulate 5 (λ y. getD p y 0 ⊻ getD q y 0)
@@ -49,7 +45,7 @@ abbrev pub sboxWord : Column → ℕ → ℕ
 sboxWord m k =
     let M : ℕ → ℕ = λ j. getD m j 0 in
     M k ⊻ (M ((k + 2) % 5) & (M ((k + 1) % 5) ⊻ M ((k + 2) % 5)))
-    ⊻ ~ ((M 0 ⊻ M 1) ∣ (M 1 ⊻ M 2) ∣ (M 2 ⊻ M 3) ∣ (M 3 ⊻ M 4))
+    ⊻ ~ (bitOr (bitOr (bitOr (M 0 ⊻ M 1) (M 1 ⊻ M 2)) (M 2 ⊻ M 3)) (M 3 ⊻ M 4))
 
 abbrev pub sboxWords : Column → Column
 sboxWords m = tabulate 5 (sboxWord m)

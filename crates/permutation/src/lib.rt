@@ -11,7 +11,7 @@ type State = [[u64; 5]; 4];
 // Five words: at each bit position an element of GF(2^5), the word y holding its coefficient at a^y.
 type Column = [u64; 5];
 
-// The round constants (Appendix A).
+// The round constants (003, Appendix A), read as ordinary hex numbers (01).
 const CONSTANTS: [u64; 12] = [
     0x0091A2B3C4D5E6F7,
     0x0048D159E26AF37B,
@@ -27,7 +27,7 @@ const CONSTANTS: [u64; 12] = [
     0x00001234F7F89ABC,
 ];
 
-// The starting words (003, 2.6).
+// The starting words (003, 2.6), read as ordinary hex numbers (01).
 const START: [[u64; 5]; 4] = [
     [
         0xFF97A42D7F8E6FD4,
@@ -59,7 +59,7 @@ const START: [[u64; 5]; 4] = [
     ],
 ];
 
-// The offsets of rho.
+// The offsets of rho (003, 2.5).
 const OFFSETS: [[u32; 5]; 4] = [
     [0, 36, 3, 41, 18],
     [1, 44, 10, 45, 2],
@@ -105,22 +105,22 @@ fn sum3(p: Column, q: Column, t: Column) -> Column
     ]
 }
 
-// The rows of the matrix, times the vector (a, b, c, d). Rows 0 and 1 share 2a + c, since 18(2a + c) = a + 18c, and rows 2 and 3 share 2c + d.
+// The rows of the matrix, times the vector (z0, z1, z2, z3). Rows 0 and 1 share 2 z0 + z2, since 18(2 z0 + z2) = z0 + 18 z2; rows 2 and 3 share 2 z2 + z3.
+// Each shared sum stands next to its rows: in this order the compiler holds more of them in registers.
 fn mu(s: State) -> State
     ensures { λ r. ⌜ r ≡ μ s ⌝ }
 {
-    let a = s[0];
-    let b = s[1];
-    let c = s[2];
-    let d = s[3];
-    let ac = sum2(twice(a), c);
-    let cd = sum2(twice(c), d);
-    [
-        sum3(ac, b, d),
-        sum3(times18(ac), b, twice(d)),
-        sum3(a, twice(b), times18(cd)),
-        sum3(a, times18(b), cd),
-    ]
+    let z0 = s[0];
+    let z1 = s[1];
+    let z2 = s[2];
+    let z3 = s[3];
+    let z02 = sum2(twice(z0), z2);
+    let row0 = sum3(z02, z1, z3);
+    let row1 = sum3(times18(z02), z1, twice(z3));
+    let z23 = sum2(twice(z2), z3);
+    let row3 = sum3(z0, times18(z1), z23);
+    let row2 = sum3(z0, twice(z1), times18(z23));
+    [row0, row1, row2, row3]
 }
 
 // w rotated left by k.
@@ -160,6 +160,7 @@ fn rho(s: State) -> State
     ]
 }
 
+// The word of (x, y) goes to x' = (x + y) mod 4, y' = (x' + y + 1) mod 5; each place below names the word that comes to it.
 fn pi(s: State) -> State
     ensures { λ r. ⌜ r ≡ π s ⌝ }
 {
@@ -194,15 +195,15 @@ fn sbox_words(m: Column) -> Column
     ]
 }
 
+// The order of the columns is the one that runs fastest (make bench).
 fn psi(s: State) -> State
     ensures { λ r. ⌜ r ≡ ψ s ⌝ }
 {
-    [
-        sbox_words(s[0]),
-        sbox_words(s[1]),
-        sbox_words(s[2]),
-        sbox_words(s[3]),
-    ]
+    let column2 = sbox_words(s[2]);
+    let column3 = sbox_words(s[3]);
+    let column0 = sbox_words(s[0]);
+    let column1 = sbox_words(s[1]);
+    [column0, column1, column2, column3]
 }
 
 // The step kappa, with the constant of the round.

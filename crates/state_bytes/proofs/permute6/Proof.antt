@@ -2,7 +2,7 @@
 -- Assumes nothing.
 use mathlib.Core.Path.{ap, _∙_}
 use borrow.Author.Needs.{needs}
-use Rattle.permutation.proofs.Words.{words}
+use Rattle.permutation.proofs.Bounds.{words}
 use Rattle.state_bytes.specs.StateBytes.{bytesOf}
 use Rattle.state_bytes.proofs.View.{permuted-bytes, shape}
 use Rattle.state_bytes.proofs.permute6.Statement.{statement}
