@@ -1,20 +1,15 @@
 -- The bits of a number: a word is made of its bits, and the operations work on each bit apart.
 -- Assumes nothing.
-use mathlib.Core.Path.{_≡_, refl, sym, ap, ap₂, _∙_, subst}
+use mathlib.Core.Path.{_≡_, refl, sym, ap, ap₂, _∙_}
 use mathlib.Core.Bool.{Bool, true, false, not, _&&_, _||_}
-use Prim.Native.Nat.{ℕ, zero, suc, _+_, _-_, _*_, _/_, _%_, _^_, _≤_, _<_}
+use Prim.Native.Nat.{ℕ, zero, suc, _+_, _-_, _*_, _/_, _%_, _^_, _<_}
 use native.Mathlib.Nat.{mod-lt, zero-lt-suc, not-suc-le-zero, le-of-suc-le-suc, pow-suc}
 use native.Mathlib.Omega.{arith}
 use lib.Dec.{eqb}
 use lib.Pow.{shr-shr, field, mod-mod-pow, high, low}
 use lib.Bits.{bitAnd, bitXor, bitOr, or-shr, or-mod, and-shr, and-mod, xor-shr, xor-mod}
 use Rattle.bits.specs.Bits.{_⊕_, bit, digit, number, word}
-
--- a number below 2 is 0 or 1
-two : (P : ℕ → Type 0) → P 0 → P 1 → (n : ℕ) → n < 2 → P n
-two P p q zero h = p
-two P p q (suc zero) h = q
-two P p q (suc (suc n)) h = absurd (not-suc-le-zero (le-of-suc-le-suc (le-of-suc-le-suc h)))
+use Rattle.bits.proofs.Cases.{two}
 
 odd : (n : ℕ) → n % 2 < 2
 odd n = mod-lt n (zero-lt-suc 1)

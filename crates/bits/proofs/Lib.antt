@@ -1,2 +1,3 @@
+pub mod Cases
 pub mod Xor
 pub mod Laws

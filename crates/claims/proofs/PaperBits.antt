@@ -4,7 +4,7 @@ use mathlib.Core.Path.{_≡_, refl, sym, ap, ap₂, _∙_}
 use mathlib.Core.Bool.{true, false}
 use mathlib.Core.List.{[], _∷_}
 use mathlib.Core.Logic.{⊎-elim}
-use Prim.Native.Nat.{ℕ, zero, suc, _+_, _-_, _*_, _/_, _%_, _^_, _≤_, _<_}
+use Prim.Native.Nat.{ℕ, zero, suc, _+_, _-_, _*_, _/_, _%_, _^_, _<_}
 use native.Mathlib.Nat.{zero-div, not-suc-le-zero, le-of-suc-le-suc, eq-zero-or-pos}
 use native.Mathlib.Omega.{arith}
 use lib.Bits.{bitXor, xor-zero-r}
@@ -12,12 +12,13 @@ use lib.Dec.{eqb}
 use lib.ListN.{length, getD, drop, List·getD-append, length-append, List·getD-eq-default}
 use lib.Pow.{shr-shr}
 use lib.Seq.{getD-take, getD-drop, getD-append-seam}
-use Rattle.bits.specs.Bits.{_⊕_, bit, number}
+use Rattle.bits.specs.Bits.{_⊕_, bit}
 use Rattle.bytes_le.specs.Bytes.{Bytes, le}
 use Rattle.icepole.specs.Sealing.{pad, xorWith}
 use Rattle.permutation.specs.State.{state}
 use Rattle.state_bytes.specs.StateBytes.{bytesOf, wordOf}
-use Rattle.bits.proofs.Laws.{bit-low, bit-number, bit-shr, bit-xor}
+use Rattle.bits.proofs.Cases.{two}
+use Rattle.bits.proofs.Laws.{bit-low, bit-shr, bit-xor}
 use Rattle.state_bytes.proofs.Words.{Shape, bytes-word}
 use Rattle.claims.specs.PaperBits.{PaperBits, bitOf}
 
@@ -60,11 +61,6 @@ state-bit S w z hw hz =
     ∙ ap (bit (wordOf (state S) w)) ez
 
 -- ---- the padding
-two : (P : ℕ → Type 0) → P 0 → P 1 → (n : ℕ) → n < 2 → P n
-two P p q zero h = p
-two P p q (suc zero) h = q
-two P p q (suc (suc n)) h = absurd (not-suc-le-zero (le-of-suc-le-suc (le-of-suc-le-suc h)))
-
 bit-none : (z : ℕ) → bit 0 z ≡ false
 unfolding bit
 bit-none z = ap (λ (n : ℕ). eqb (n % 2) 1) (zero-div (2 ^ z))

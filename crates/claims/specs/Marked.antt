@@ -2,7 +2,7 @@
 -- Assumes nothing.
 use mathlib.Core.Path.{_≡_}
 use mathlib.Core.List.{List, [], _∷_, map}
-use Prim.Native.Nat.{ℕ, _^_}
+use Prim.Native.Nat.{ℕ, _+_, _^_}
 use lib.ListN.{replicate}
 use Rattle.bits.specs.Bits.{bit, number}
 use Rattle.bytes_le.specs.Bytes.{Bytes}
@@ -10,6 +10,8 @@ use Rattle.permutation.specs.State.{Grid, State, setWord, state}
 use Rattle.permutation.specs.Permutation.{μ, ρ, π, sbox}
 use Rattle.state_bytes.specs.StateBytes.{stateOf}
 use Rattle.icepole.specs.Sealing.{xorWith, pad}
+use Rattle.burst.specs.Layout.{edition1, entryLength}
+use Rattle.burst.specs.Plain.{Plain, keepShot, dropShot, closeBurst, usedOf, totalOf, headerOf, plainOf}
 
 -- the state with S[x][y] = w and zeros elsewhere
 abbrev pub only : ℕ → ℕ → ℕ → State
@@ -22,6 +24,26 @@ sboxOf n = number 5 (sbox (bit n))
 -- the zero state with a padded block xored in
 abbrev pub absorbed : Bytes → ℕ → State
 absorbed b frame = stateOf (xorWith (replicate 160 0) (pad b frame))
+
+-- burst 7 with drop, keep of 3 bytes, drop (01, "Afterwards"), closed in a buffer of 111 bytes; the key, the site mark, the stamp and the picture do not matter here
+abbrev pub burst7 : Plain
+burst7 =
+    plainOf edition1
+    (record {
+      key = replicate 16 0;
+      identity = record { burstNumber = 7; siteMark = replicate 16 0 };
+      bufferLength = 111;
+      calls = dropShot ∷ keepShot (replicate 16 0) (replicate 3 0) ∷ dropShot ∷ closeBurst ∷ [];
+    })
+
+-- 0100 0300 0100 0200 0700000000000000 20000000 43000000 4F000000 6F000000
+abbrev pub header7 : Bytes
+header7 =
+    0x01 ∷ 0x00 ∷ 0x03 ∷ 0x00 ∷ 0x01 ∷ 0x00 ∷ 0x02 ∷ 0x00
+    ∷ 0x07 ∷ 0x00 ∷ 0x00 ∷ 0x00 ∷ 0x00 ∷ 0x00 ∷ 0x00 ∷ 0x00
+    ∷ 0x20 ∷ 0x00 ∷ 0x00 ∷ 0x00 ∷ 0x43 ∷ 0x00 ∷ 0x00 ∷ 0x00
+    ∷ 0x4F ∷ 0x00 ∷ 0x00 ∷ 0x00 ∷ 0x6F ∷ 0x00 ∷ 0x00 ∷ 0x00
+    ∷ []
 
 pub record Row : Type 0 where
   pub given : Grid
@@ -47,6 +69,10 @@ marked =
     ∷ (ρ (only 1 0 (2 ^ 63)) is only 1 0 1)
     ∷ (absorbed [] 0 is only 0 0 2)
     ∷ (absorbed (replicate 128 0) 1 is only 0 4 3)
+    ∷ ((headerOf edition1 burst7 ∷ []) is (header7 ∷ []))
+    ∷ (the (usedOf edition1 burst7) is the 67)
+    ∷ (the (usedOf edition1 burst7 + entryLength) is the 79)
+    ∷ (the (totalOf edition1 burst7) is the 111)
     ∷ []
 
 -- every row's two sides agree

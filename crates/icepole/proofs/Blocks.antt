@@ -1,22 +1,18 @@
 -- Data in blocks: each function over all blocks, by its first block and the rest.
 -- Assumes nothing.
 use mathlib.Core.Path.{_≡_, ap, ap₂, _∙_}
-use Prim.Native.Nat.{ℕ, zero, suc, _<_, _+_, _-_, _*_, _/_, _≤_, zero-le, suc-le-suc}
-use native.Mathlib.Nat.{zero-lt-suc, le-refl, div-eq-of-lt, add-mul-div-right, one-mul}
+use Prim.Native.Nat.{ℕ, zero, suc, _<_, _+_, _-_, _*_, _/_, _≤_}
+use native.Mathlib.Nat.{le-refl, div-eq-of-lt, add-mul-div-right, one-mul}
 use native.Mathlib.Omega.{arith}
-use mathlib.Core.Logic.{⊎-elim, _⊎_, inl, inr}
+use mathlib.Core.Logic.{⊎-elim}
 use mathlib.Core.List.{_++_}
 use lib.ListN.{length, take, drop, length-append, length-drop, take-append-drop}
 use lib.Seq.{length-take-le, take-at, drop-at}
 use Rattle.bytes_le.specs.Bytes.{Bytes}
+use Rattle.bits.proofs.Cases.{le-or-lt}
 use Rattle.state_bytes.proofs.Lengths.{length-permuted}
 use Rattle.icepole.specs.Sealing.{_⊕_, absorb, absorbAssociated, absorbBlocks, absorbMessage, blocksBefore, decrypt, encrypt, pad, xorWith}
 use Rattle.icepole.proofs.Xor.{length-xor, xor-twice}
-
-le-or-lt : (a b : ℕ) → (a ≤ b) ⊎ (b < a)
-le-or-lt zero b = inl zero-le
-le-or-lt (suc a) zero = inr (zero-lt-suc a)
-le-or-lt (suc a) (suc b) = ⊎-elim (λ p. inl (suc-le-suc p)) (λ q. inr (suc-le-suc q)) (le-or-lt a b)
 
 pub length-absorb : (v b : Bytes) (f : ℕ) → length (absorb v b f) ≡ 160
 unfolding absorb

@@ -2,16 +2,15 @@
 -- Assumes nothing.
 use mathlib.Core.Path.{_≡_, refl, sym, ap, ap₂, _∙_}
 use mathlib.Core.List.{[], _∷_, _++_, append-assoc}
-use Prim.Native.Nat.{ℕ, zero, suc, _<_, _+_, _*_, _/_, _%_, _≤_}
-use native.Mathlib.Nat.{not-suc-le-zero, le-of-suc-le-suc}
+use Prim.Native.Nat.{ℕ, _<_, _+_, _*_, _/_, _%_, _≤_}
 use native.Mathlib.Omega.{arith}
 use lib.Bits.{bitXor}
 use lib.ListN.{length, take, drop, replicate}
 use lib.Seq.{drop-drop, take-add}
 use Rattle.bytes_le.specs.Bytes.{Bytes, le, putBytes}
-use Rattle.permutation.specs.Permutation.{P}
 use Rattle.permutation.specs.State.{State, setWord}
 use Rattle.state_bytes.specs.StateBytes.{bytesOf, permuted, wordOf}
+use Rattle.bits.proofs.Cases.{two}
 use Rattle.bytes_le.proofs.Laws.{put-put}
 use Rattle.state_bytes.proofs.Words.{Shape, bytes-set-word, bytes-word}
 use Rattle.icepole.specs.Sealing.{_⊕_, absorb, pad, xorWith}
@@ -62,11 +61,6 @@ part-word d i w =
     ap (λ (n : ℕ). take n (drop i d)) e ∙ take-add (8 * w) 8 (drop i d) ∙ ap (λ (l : Bytes). take (8 * w) (drop i d) ++ take 8 l) (drop-drop (8 * w) i d)
 
 -- ---- the padding, in word w
-two : (P : ℕ → Type 0) → P 0 → P 1 → (n : ℕ) → n < 2 → P n
-two P p q zero h = p
-two P p q (suc zero) h = q
-two P p q (suc (suc n)) h = absurd (not-suc-le-zero (le-of-suc-le-suc (le-of-suc-le-suc h)))
-
 pub padded-word : (t : State) → Shape t → (w : ℕ) → w < 20 → (v p : Bytes) → length v ≡ 160 → length p ≡ 8 * w → (f : ℕ) → f < 2
     → bytesOf t ≡ xorWith v p → bytesOf (setWord t (w % 4) (w / 4) (bitXor (wordOf t w) (f + 2))) ≡ xorWith v (pad p f)
 padded-word t ht w hw v p hv hp f hf e =

@@ -79,10 +79,6 @@ pub xor-with-none : (v : Bytes) → v ≡ xorWith v (v ⊕ [])
 xor-with-none [] = refl
 xor-with-none (x ∷ v) = refl
 
-pub xor-none : (v : Bytes) → v ⊕ [] ≡ []
-xor-none [] = refl
-xor-none (x ∷ v) = refl
-
 -- ---- the padding
 pub padded : (v p b : Bytes) (n f : ℕ) (r : Bytes) → length p ≡ n → n < length v → b ≡ xorWith v p
     → r ≡ permuted 6 (set b n (bitXor (getD b n 0) (f + 2))) → r ≡ absorb v p f

@@ -2,19 +2,14 @@
 -- Assumes nothing.
 use mathlib.Core.Path.{_≡_, refl, sym, ap, ap₂, _∙_}
 use mathlib.Core.List.{[], _∷_, _++_}
-use Prim.Native.Nat.{ℕ, zero, suc, _<_, _+_, _*_, _/_, _%_, _≤_}
+use Prim.Native.Nat.{ℕ, suc, _<_, _+_, _*_, _/_, _%_, _≤_}
 use lib.ListN.{getD, set, length}
 use native.Mathlib.Nat.{mod-lt, zero-lt-suc, not-suc-le-zero, le-of-suc-le-suc, div-add-mod'}
 use lib.Bits.{bitXor, xor-shr, xor-mod, differ, xor-step}
 use lib.Arith.{bin-ind}
 use Rattle.bytes_le.specs.Bytes.{Bytes}
-use Rattle.permutation.specs.Permutation.{P}
+use Rattle.bits.proofs.Cases.{two}
 use Rattle.icepole.specs.Sealing.{_⊕_, xorWith}
-
-two : (P : ℕ → Type 0) → P 0 → P 1 → (n : ℕ) → n < 2 → P n
-two P p q zero h = p
-two P p q (suc zero) h = q
-two P p q (suc (suc n)) h = absurd (not-suc-le-zero (le-of-suc-le-suc (le-of-suc-le-suc h)))
 
 bits-cancel : (x y : ℕ) → x < 2 → y < 2 → differ x (differ x y) ≡ y
 bits-cancel x y hx hy =
@@ -38,6 +33,10 @@ xor-cancel =
     ∙ ap₂ (λ (x y : ℕ). x * 2 + y) (ap (bitXor (n / 2)) (xor-half n b) ∙ ih (b / 2))
     (ap (differ (n % 2)) (xor-odd n b) ∙ bits-cancel (n % 2) (b % 2) (mod-lt n (zero-lt-suc 1)) (mod-lt b (zero-lt-suc 1)))
     ∙ div-add-mod' b 2)
+
+pub xor-none : (v : Bytes) → v ⊕ [] ≡ []
+xor-none [] = refl
+xor-none (x ∷ v) = refl
 
 pub length-xor : (v b : Bytes) → length b ≤ length v → length (v ⊕ b) ≡ length b
 length-xor [] [] h = refl
@@ -72,11 +71,7 @@ xor-with-snoc (x ∷ v) (y ∷ b) z h = ap (λ (l : Bytes). bitXor x y ∷ l) (x
 pub xor-snoc : (v b : Bytes) (z : ℕ) → length b < length v
     → v ⊕ (b ++ (z ∷ [])) ≡ (v ⊕ b) ++ (bitXor (getD v (length b) 0) z ∷ [])
 xor-snoc [] b z h = absurd (not-suc-le-zero h)
-xor-snoc (x ∷ v) [] z h = ap (λ (l : Bytes). bitXor x z ∷ l) (xor-nil v)
-  where
-    xor-nil : (v : Bytes) → v ⊕ [] ≡ []
-    xor-nil [] = refl
-    xor-nil (x ∷ v) = refl
+xor-snoc (x ∷ v) [] z h = ap (λ (l : Bytes). bitXor x z ∷ l) (xor-none v)
 xor-snoc (x ∷ v) (y ∷ b) z h = ap (λ (l : Bytes). bitXor x y ∷ l) (xor-snoc v b z (le-of-suc-le-suc h))
 
 -- the byte that comes next, of a ciphertext, takes the state's place
@@ -84,8 +79,4 @@ pub xor-with-set : (v c : Bytes) (z : ℕ) → length c < length v
     → set (xorWith v (v ⊕ c)) (length c) z ≡ xorWith v (v ⊕ (c ++ (z ∷ [])))
 xor-with-set [] c z h = absurd (not-suc-le-zero h)
 xor-with-set (x ∷ v) [] z h = λ i. sym (xor-cancel x z) i ∷ xorWith v (sym (xor-none v) i)
-  where
-    xor-none : (v : Bytes) → v ⊕ [] ≡ []
-    xor-none [] = refl
-    xor-none (x ∷ v) = refl
 xor-with-set (x ∷ v) (y ∷ c) z h = ap (λ (l : Bytes). bitXor x (bitXor x y) ∷ l) (xor-with-set v c z (le-of-suc-le-suc h))

@@ -2,25 +2,20 @@
 -- Assumes nothing.
 use mathlib.Core.Path.{_≡_, refl, sym, ap, ap₂, _∙_}
 use mathlib.Core.List.{List, [], _++_}
-use Prim.Native.Nat.{ℕ, zero, suc, _<_, _*_, _/_, _%_, _≤_, zero-le, suc-le-suc}
+use Prim.Native.Nat.{ℕ, zero, suc, _<_, _*_, _/_, _%_, _≤_}
 use lib.ListN.{getD, set, length, length-set, take, drop}
 use mathlib.Core.Bool.{Bool, true, false}
-use native.Mathlib.Nat.{zero-lt-suc}
 use native.Mathlib.Omega.{arith}
 use lib.Dec.{eqb}
-use mathlib.Core.Logic.{⊎-elim, _⊎_, inl, inr}
+use mathlib.Core.Logic.{⊎-elim}
 use lib.Seq.{getD-set-same, getD-set-other, set-getD}
 use borrow.Author.Tests.{eqb-true, eqb-false}
 use Rattle.bytes_le.specs.Bytes.{Bytes, le, putBytes}
 use Rattle.permutation.specs.State.{State, at, setWord}
+use Rattle.bits.proofs.Cases.{le-or-lt}
 use Rattle.bytes_le.proofs.Laws.{drop-put, put-last, put-left}
 use Rattle.state_bytes.specs.StateBytes.{bytesBelow, bytesOf, wordOf}
 use Rattle.state_bytes.proofs.Lengths.{length-below, length-bytes}
-
-le-or-lt : (a b : ℕ) → (a ≤ b) ⊎ (b < a)
-le-or-lt zero b = inl zero-le
-le-or-lt (suc a) zero = inr (zero-lt-suc a)
-le-or-lt (suc a) (suc b) = ⊎-elim (λ p. inl (suc-le-suc p)) (λ q. inr (suc-le-suc q)) (le-or-lt a b)
 
 -- four columns of five words
 pub record Shape (s : State) : Type 0 where

@@ -1,4 +1,4 @@
--- `icepole::absorb_associated` meets its contract: the loop's invariant: absorbing what is left from here gives what absorbing all gives from the start.
+-- `icepole::absorb_associated` meets its contract. The loop's invariant: absorbing what is left from here gives what absorbing all gives from the start.
 -- Assumes nothing.
 use mathlib.Core.Path.{_≡_, refl, ap, _∙_}
 use mathlib.Core.List.{_++_}

@@ -1,4 +1,4 @@
--- `icepole::absorb_words` meets its contract: the loop's invariant: the words below w are xored in.
+-- `icepole::absorb_words` meets its contract. The loop's invariant: the words below w are xored in.
 -- Assumes nothing.
 use mathlib.Core.Path.{_≡_, refl, ap, _∙_}
 use Prim.Native.Nat.{ℕ, _+_, _-_, _*_, _<_, _≤_}

@@ -1,4 +1,4 @@
--- `icepole::decrypt_bytes` meets its contract: the loop's invariant: the first j bytes are put, and stand in the state as ciphertext.
+-- `icepole::decrypt_bytes` meets its contract. The loop's invariant: the first j bytes are put, and stand in the state as ciphertext.
 -- Assumes nothing.
 use mathlib.Core.Path.{_≡_, refl, sym, ap, _∙_}
 use Prim.Native.Nat.{ℕ, _+_, _-_, _<_, _≤_}
@@ -9,8 +9,8 @@ use lib.ListN.{length, take, drop, getD, set, length-set}
 use Rattle.bytes_le.specs.Bytes.{Bytes, putBytes}
 use Rattle.bytes_le.proofs.Laws.{put-none, put-snoc}
 use Rattle.icepole.specs.Sealing.{_⊕_, xorWith}
-use Rattle.icepole.proofs.Steps.{decrypt-byte, length-part, padded, set-more, xor-none, xor-with-none}
-use Rattle.icepole.proofs.Xor.{length-xor}
+use Rattle.icepole.proofs.Steps.{decrypt-byte, length-part, padded, set-more, xor-with-none}
+use Rattle.icepole.proofs.Xor.{length-xor, xor-none}
 use Rattle.icepole.proofs.decrypt_bytes.Statement.{statement}
 use Rattle.icepole.proofs.decrypt_bytes.Tie as tie
 

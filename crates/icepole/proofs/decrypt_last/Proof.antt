@@ -1,4 +1,4 @@
--- `icepole::decrypt_last` meets its contract: the loop's invariant: the first j bytes are put.
+-- `icepole::decrypt_last` meets its contract. The loop's invariant: the first j bytes are put.
 -- Assumes nothing.
 use mathlib.Core.Path.{_≡_, refl, sym, ap, _∙_}
 use mathlib.Core.List.{[], _∷_, _++_}
@@ -10,8 +10,8 @@ use lib.ListN.{length, take, drop, getD, set, length-set}
 use Rattle.bytes_le.specs.Bytes.{Bytes, putBytes}
 use Rattle.bytes_le.proofs.Laws.{put-none, put-snoc}
 use Rattle.icepole.specs.Sealing.{_⊕_}
-use Rattle.icepole.proofs.Steps.{length-part, part-snoc, xor-none}
-use Rattle.icepole.proofs.Xor.{length-xor, xor-snoc}
+use Rattle.icepole.proofs.Steps.{length-part, part-snoc}
+use Rattle.icepole.proofs.Xor.{length-xor, xor-none, xor-snoc}
 use Rattle.icepole.proofs.decrypt_last.Statement.{statement}
 use Rattle.icepole.proofs.decrypt_last.Tie as tie
 

@@ -1,4 +1,4 @@
--- `icepole::decrypt_message` meets its contract: the loop's invariant: the message before here is put, and what is left gives the rest of it.
+-- `icepole::decrypt_message` meets its contract. The loop's invariant: the message before here is put, and what is left gives the rest of it.
 -- Assumes nothing.
 use mathlib.Core.Path.{_≡_, refl, sym, ap, ap₂, _∙_}
 use Prim.Native.Nat.{ℕ, _+_, _-_, _*_, _≤_}

@@ -1,4 +1,4 @@
--- `icepole::decrypt_words` meets its contract: the loop's invariant: the words below w are put, and stand in the state as ciphertext.
+-- `icepole::decrypt_words` meets its contract. The loop's invariant: the words below w are put, and stand in the state as ciphertext.
 -- Assumes nothing.
 use mathlib.Core.Path.{_≡_, refl, ap, _∙_}
 use Prim.Native.Nat.{ℕ, _+_, _-_, _*_, _<_, _≤_}
@@ -13,8 +13,8 @@ use Rattle.state_bytes.proofs.View.{shape}
 use Rattle.state_bytes.proofs.Words.{Shape, shape-set-word}
 use Rattle.icepole.specs.Sealing.{_⊕_, xorWith}
 use Rattle.icepole.proofs.Full.{full, word-decrypt, word-set}
-use Rattle.icepole.proofs.Steps.{length-part, xor-none, xor-with-none}
-use Rattle.icepole.proofs.Xor.{length-xor}
+use Rattle.icepole.proofs.Steps.{length-part, xor-with-none}
+use Rattle.icepole.proofs.Xor.{length-xor, xor-none}
 use Rattle.icepole.proofs.decrypt_words.Statement.{statement}
 use Rattle.icepole.proofs.decrypt_words.Tie as tie
 

@@ -1,4 +1,4 @@
--- `icepole::encrypt_message` meets its contract: the loop's invariant: the ciphertext before here is put, and what is left gives the rest of it.
+-- `icepole::encrypt_message` meets its contract. The loop's invariant: the ciphertext before here is put, and what is left gives the rest of it.
 -- Assumes nothing.
 use mathlib.Core.Path.{_≡_, refl, ap, _∙_}
 use Prim.Native.Nat.{_+_, _-_, _*_, _≤_}

@@ -1,4 +1,4 @@
--- `icepole::encrypt_words` meets its contract: the loop's invariant: the words below w are put and xored in.
+-- `icepole::encrypt_words` meets its contract. The loop's invariant: the words below w are put and xored in.
 -- Assumes nothing.
 use mathlib.Core.Path.{_≡_, refl, ap, _∙_}
 use Prim.Native.Nat.{ℕ, _+_, _-_, _*_, _<_, _≤_}
@@ -13,7 +13,8 @@ use Rattle.state_bytes.proofs.View.{shape}
 use Rattle.state_bytes.proofs.Words.{Shape, shape-set-word}
 use Rattle.icepole.specs.Sealing.{_⊕_, xorWith}
 use Rattle.icepole.proofs.Full.{full, word-out, word-xor-with}
-use Rattle.icepole.proofs.Steps.{length-part, xor-none}
+use Rattle.icepole.proofs.Steps.{length-part}
+use Rattle.icepole.proofs.Xor.{xor-none}
 use Rattle.icepole.proofs.encrypt_words.Statement.{statement}
 use Rattle.icepole.proofs.encrypt_words.Tie as tie
 

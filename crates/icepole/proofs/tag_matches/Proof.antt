@@ -1,4 +1,4 @@
--- `icepole::tag_matches` meets its contract: the loop's invariant: d is 0 where the first j bytes agree.
+-- `icepole::tag_matches` meets its contract. The loop's invariant: d is 0 where the first j bytes agree.
 -- Assumes nothing.
 use mathlib.Core.Path.{_≡_, refl, ap, _∙_}
 use Prim.Native.Nat.{ℕ, _-_, _≤_}

@@ -1,4 +1,4 @@
--- `icepole::verify_bytes` meets its contract: the loop's invariant: the first j bytes of ciphertext stand in the state.
+-- `icepole::verify_bytes` meets its contract. The loop's invariant: the first j bytes of ciphertext stand in the state.
 -- Assumes nothing.
 use mathlib.Core.Path.{_≡_, ap, _∙_}
 use Prim.Native.Nat.{ℕ, _+_, _-_, _<_, _≤_}

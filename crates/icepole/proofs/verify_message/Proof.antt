@@ -1,4 +1,4 @@
--- `icepole::verify_message` meets its contract: the loop's invariant: what is left from here ends in the same state as all from the start.
+-- `icepole::verify_message` meets its contract. The loop's invariant: what is left from here ends in the same state as all from the start.
 -- Assumes nothing.
 use mathlib.Core.Path.{_≡_, refl, ap, ap₂, _∙_}
 use Prim.Native.Nat.{_-_, _*_, _≤_}

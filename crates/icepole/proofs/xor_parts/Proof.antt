@@ -1,4 +1,4 @@
--- `icepole::xor_parts` meets its contract: the loop's invariant: the first j bytes are xored in.
+-- `icepole::xor_parts` meets its contract. The loop's invariant: the first j bytes are xored in.
 -- Assumes nothing.
 use mathlib.Core.Path.{_≡_, refl, ap, _∙_}
 use mathlib.Core.List.{_++_}

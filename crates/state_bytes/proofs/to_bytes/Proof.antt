@@ -1,4 +1,4 @@
--- `state_bytes::to_bytes` meets its contract: the loop's invariant: the bytes of the words below w are put.
+-- `state_bytes::to_bytes` meets its contract. The loop's invariant: the bytes of the words below w are put.
 -- Assumes nothing.
 use mathlib.Core.Path.{_≡_, refl, _∙_}
 use Prim.Native.Nat.{_-_, _≤_}

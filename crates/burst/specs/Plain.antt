@@ -1,0 +1,148 @@
+-- The plain burst (01, "Recorder"): worked out from the calls' arguments and the buffer's length alone, never from the recorder.
+-- Assumes nothing.
+use mathlib.Core.Bool.{Bool, true, false, not}
+use mathlib.Core.List.{List, [], _∷_, _++_}
+use Prim.Native.Nat.{ℕ, suc, _+_}
+use lib.Dec.{eqb}
+use lib.ListN.{length}
+use Rattle.bytes_le.specs.Bytes.{Bytes}
+use Rattle.icepole.specs.Sealing.{pick}
+use Rattle.burst.specs.Layout.{Edition, Identity, entryBytes, headerBytes, recordBytes, closingSeal}
+use Rattle.burst.specs.Numbers.{usedAfter, totalFrom, beginNumber, keepNumber, dropNumber, closeNumber}
+
+-- ---- a shot: a picture with its stamp, or a gap where it was dropped
+pub data Shot : Type 0 where
+  kept : (stamp picture : Bytes) → Shot
+  gap : Shot
+
+-- how many pictures, and how many gaps
+abbrev pub pictures : List Shot → ℕ
+pictures [] = 0
+pictures (kept s p ∷ xs) = suc (pictures xs)
+pictures (gap ∷ xs) = pictures xs
+
+abbrev pub gaps : List Shot → ℕ
+gaps [] = 0
+gaps (kept s p ∷ xs) = gaps xs
+gaps (gap ∷ xs) = suc (gaps xs)
+
+-- the bytes used after the records of xs, where `used` were before
+abbrev pub usedBy : ℕ → List Shot → ℕ
+usedBy used [] = used
+usedBy used (kept s p ∷ xs) = usedBy (usedAfter used (length p)) xs
+usedBy used (gap ∷ xs) = usedBy used xs
+
+-- the records, and the index, of xs, the first of which is shot number n; the first record stands at `offset`
+abbrev pub records : Bytes → ℕ → ℕ → ℕ → List Shot → Bytes
+records key burstNumber n offset [] = []
+records key burstNumber n offset (kept s p ∷ xs) =
+    recordBytes key burstNumber n offset s p ++ records key burstNumber (n + 1) (usedAfter offset (length p)) xs
+records key burstNumber n offset (gap ∷ xs) = records key burstNumber (n + 1) offset xs
+
+abbrev pub index : ℕ → ℕ → List Shot → Bytes
+index n offset [] = []
+index n offset (kept s p ∷ xs) = entryBytes n 0 offset (length p) ++ index (n + 1) (usedAfter offset (length p)) xs
+index n offset (gap ∷ xs) = index (n + 1) offset xs
+
+-- ---- the burst
+pub record Plain : Type 0 where
+  pub key : Bytes
+  pub identity : Identity
+  pub shots : List Shot
+  pub closed : Bool
+
+-- at first it is closed
+abbrev pub noBurst : Plain
+noBurst = record { key = []; identity = record { burstNumber = 0; siteMark = [] }; shots = []; closed = true }
+
+module _ (e : Edition) where
+  abbrev pub usedOf : Plain → ℕ
+  usedOf p = usedBy (e .headerLength) (p .shots)
+
+  unfoldable pub totalOf : Plain → ℕ
+  totalOf p = totalFrom (usedOf p) (pictures (p .shots))
+
+  unfoldable pub headerOf : Plain → Bytes
+  headerOf p = headerBytes e (length (p .shots)) (pictures (p .shots)) (gaps (p .shots)) (p .identity .burstNumber) (usedOf p)
+
+  unfoldable pub indexOf : Plain → Bytes
+  indexOf p = index 1 (e .headerLength) (p .shots)
+
+  -- its file: header, records, index and closing seal, each shot numbered by its position from 1
+  unfoldable pub fileOf : Plain → Bytes
+  fileOf p =
+      headerOf p
+      ++ (records (p .key) (p .identity .burstNumber) 1 (e .headerLength) (p .shots)
+      ++ (indexOf p ++ closingSeal (p .key) (p .identity) (headerOf p) (indexOf p)))
+
+-- ---- the calls after begin
+pub data Call : Type 0 where
+  keepShot : (stamp picture : Bytes) → Call
+  dropShot : Call
+  closeBurst : Call
+
+-- a list of calls: the arguments of its one begin, the length of the buffer, and the calls after it
+pub record CallList : Type 0 where
+  pub key : Bytes
+  pub identity : Identity
+  pub bufferLength : ℕ
+  pub calls : List Call
+
+-- what a call answers: its refusal number, and the shot number or the total, 0 where it was refused
+pub record Answer : Type 0 where
+  pub number : ℕ
+  pub value : ℕ
+
+module _ (e : Edition) (bufferLength : ℕ) where
+  -- closed stands for not sound
+  unfoldable pub numberOf : Plain → Call → ℕ
+  numberOf p (keepShot s q) =
+      keepNumber e (not (p .closed)) (length (p .shots)) (pictures (p .shots)) (usedOf e p) (length s) (length q) bufferLength
+  numberOf p dropShot = dropNumber e (not (p .closed)) (length (p .shots))
+  numberOf p closeBurst = closeNumber (not (p .closed)) (pictures (p .shots)) (usedOf e p) bufferLength
+
+  abbrev withShot : Plain → Shot → Plain
+  withShot p x = record { key = p .key; identity = p .identity; shots = p .shots ++ (x ∷ []); closed = p .closed }
+
+  -- the burst after an accepted call
+  unfoldable pub accepted : Plain → Call → Plain
+  accepted p (keepShot s q) = withShot p (kept s q)
+  accepted p dropShot = withShot p gap
+  accepted p closeBurst = record { key = p .key; identity = p .identity; shots = p .shots; closed = true }
+
+  -- what an accepted call answers: the count of shots, or the total
+  unfoldable pub valueOf : Plain → Call → ℕ
+  valueOf p (keepShot s q) = length (p .shots) + 1
+  valueOf p dropShot = length (p .shots) + 1
+  valueOf p closeBurst = totalOf e p
+
+  -- a call turned down changes nothing
+  unfoldable pub afterCall : Plain → Call → Plain
+  afterCall p c = pick (eqb (numberOf p c) 0) (accepted p c) p
+
+  unfoldable pub answerOf : Plain → Call → Answer
+  answerOf p c = record { number = numberOf p c; value = pick (eqb (numberOf p c) 0) (valueOf p c) 0 }
+
+  abbrev pub afterCalls : Plain → List Call → Plain
+  afterCalls p [] = p
+  afterCalls p (c ∷ cs) = afterCalls (afterCall p c) cs
+
+  abbrev pub answersOf : Plain → List Call → List Answer
+  answersOf p [] = []
+  answersOf p (c ∷ cs) = answerOf p c ∷ answersOf (afterCall p c) cs
+
+module _ (e : Edition) (l : CallList) where
+  abbrev pub beginRefusal : ℕ
+  beginRefusal = beginNumber e (length (l .key)) (length (l .identity .siteMark)) (l .bufferLength)
+
+  -- a begin turned down leaves the burst closed
+  unfoldable pub begun : Plain
+  begun = pick (eqb beginRefusal 0) (record { key = l .key; identity = l .identity; shots = []; closed = false }) noBurst
+
+  -- the plain burst of a list
+  unfoldable pub plainOf : Plain
+  plainOf = afterCalls e (l .bufferLength) begun (l .calls)
+
+  -- the answers of all its calls, begin's first
+  unfoldable pub plainAnswers : List Answer
+  plainAnswers = record { number = beginRefusal; value = 0 } ∷ answersOf e (l .bufferLength) begun (l .calls)

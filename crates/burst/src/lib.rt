@@ -1,0 +1,1 @@
+// The burst file. So far its definitions stand here (specs/), without code.
