@@ -4,8 +4,9 @@
  * The functions are written in Rattle and proved to meet their contracts (crates/icepole_c). Link target/staticlib/libicepole_c.a,
  * which `make lib` builds.
  *
- * Slices. Every slice is a pointer and a length in bytes. Slices do not overlap, and the pointers are valid for their lengths; the
- * proofs assume it. An empty slice is any pointer, not NULL, with length 0. All numbers are little-endian.
+ * Slices. Every slice is a pointer and a length in bytes. The pointers are valid for their lengths, and out and info overlap no other
+ * slice; the proofs assume it. Slices that are only read may overlap. NULL is not allowed, not even with length 0: an empty slice is
+ * any other pointer with length 0. All numbers are little-endian.
  *
  * Associated data comes in two parts, ad1 and ad2, and means their joining, ad1 then ad2. Where there is one part, the other is empty.
  *

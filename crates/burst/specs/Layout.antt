@@ -46,15 +46,18 @@ nonceOf burstNumber shot = le 8 burstNumber ++ (le 2 shot ++ replicate 6 0)
 unfoldable pub entryBytes : ℕ → ℕ → ℕ → ℕ → Bytes
 entryBytes shot zeros offset count = le 2 shot ++ (le 2 zeros ++ (le 4 offset ++ le 4 count))
 
+-- the closing seal stands behind the index
+abbrev pub closingOffset : ℕ → ℕ → ℕ
+closingOffset indexOffset kept = indexOffset + entryLength * kept
+
 -- header: edition, taken, kept, dropped, burst number, picture offset, index offset, closing offset, total length
 unfoldable pub headerBytes : Edition → (taken kept dropped burstNumber indexOffset : ℕ) → Bytes
 headerBytes e taken kept dropped burstNumber indexOffset =
-    let closingOffset : ℕ = indexOffset + entryLength * kept in
     le 2 (e .number)
     ++ (le 2 taken
     ++ (le 2 kept
     ++ (le 2 dropped
-    ++ (le 8 burstNumber ++ (le 4 (e .headerLength) ++ (le 4 indexOffset ++ (le 4 closingOffset ++ le 4 (closingOffset + sealLength))))))))
+    ++ (le 8 burstNumber ++ (le 4 (e .headerLength) ++ (le 4 indexOffset ++ (le 4 (closingOffset indexOffset kept) ++ le 4 (closingOffset indexOffset kept + sealLength))))))))
 
 -- record: ICEPOLE-128 over the picture, with the stamp as the secret number and the index entry as associated data
 unfoldable pub recordBytes : (key : Bytes) (burstNumber shot offset : ℕ) (stamp picture : Bytes) → Bytes

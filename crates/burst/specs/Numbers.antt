@@ -2,10 +2,10 @@
 -- Assumes nothing.
 use mathlib.Core.Bool.{Bool, not, _||_}
 use mathlib.Core.List.{List, [], _∷_}
-use Prim.Native.Nat.{ℕ, _+_, _*_}
+use Prim.Native.Nat.{ℕ, _+_}
 use lib.Dec.{eqb, leb, ltb}
 use Rattle.icepole.specs.Answers.{refusal, _when_}
-use Rattle.burst.specs.Layout.{Edition, maxPicture, entryLength, sealLength}
+use Rattle.burst.specs.Layout.{Edition, maxPicture, closingOffset, sealLength}
 
 -- bytes used after a picture of so many bytes
 abbrev pub usedAfter : ℕ → ℕ → ℕ
@@ -13,7 +13,7 @@ usedAfter used picture = used + picture + sealLength
 
 -- the file's length, from the bytes used by header and records and the count of pictures
 abbrev pub totalFrom : ℕ → ℕ → ℕ
-totalFrom used kept = used + entryLength * kept + sealLength
+totalFrom used kept = closingOffset used kept + sealLength
 
 -- key, site mark and buffer by their lengths. A burst without shots needs header and closing seal
 unfoldable pub beginNumber : Edition → (key siteMark buffer : ℕ) → ℕ

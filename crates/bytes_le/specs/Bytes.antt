@@ -8,6 +8,7 @@ use lib.ListN.{length, take, drop}
 abbrev pub Bytes : Type 0
 Bytes = List ℕ
 
+-- every number is below 256
 abbrev pub AllBytes : Bytes → Type 0
 AllBytes [] = Unit {0}
 AllBytes (b ∷ bs) = (b < 256) × AllBytes bs

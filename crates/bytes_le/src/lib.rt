@@ -4,7 +4,7 @@ ghost use Prim.Native.Nat.{_+_, _≤_};
 ghost use lib.ListN.{length, take, drop};
 ghost use Rattle.bytes_le.specs.Bytes.{putBytes, le, unle};
 
-// Copies all of src into out from index at.
+// Copies all of src into out from index at on; returns the index behind it.
 pub fn put_bytes(out: &mut [u8], at: usize, src: &[u8]) -> usize
     requires { ⌜ at + length (now src) ≤ length (now out) ⌝ }
     ensures { λ r. ⌜ (r ≡ at + length (now (src .entry))) × (now (out .exit) ≡ putBytes (now (out .entry)) at (now (src .entry))) ⌝ }
@@ -17,7 +17,7 @@ pub fn put_bytes(out: &mut [u8], at: usize, src: &[u8]) -> usize
     at + j
 }
 
-// Puts the eight bytes of x into out from index at on.
+// Puts the eight bytes of x into out from index at on; returns the index behind them.
 pub fn store_u64(out: &mut [u8], at: usize, x: u64) -> usize
     requires { ⌜ at + 8 ≤ length (now out) ⌝ }
     ensures { λ r. ⌜ (r ≡ at + 8) × (now (out .exit) ≡ putBytes (now (out .entry)) at (le 8 x)) ⌝ }

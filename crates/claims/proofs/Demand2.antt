@@ -5,22 +5,20 @@ use mathlib.Core.Bool.{Bool, true}
 use mathlib.Core.Option.{some}
 use Prim.Native.Nat.{ℕ, _+_, _≤_, _<_}
 use native.Mathlib.Omega.{arith}
-use borrow.Author.Tests.{le-leb, leb-true}
+use borrow.Author.Tests.{le-leb, ne-eqb}
 use lib.ListN.{length}
-use denote.Steps.{opens}
+use mathlib.Core.List.{[]}
 use Rattle.bytes_le.specs.Bytes.{Bytes, putBytes}
-use Rattle.icepole.specs.Answers.{fitsOutput, openAnswer, openLength, openNumber, openOutput, openRefusal, sealAnswer, sealOutput, sealRefusal, tagAgrees}
+use Rattle.icepole.specs.Answers.{fitsOutput, openAnswer, openLength, openNumber, openOutput, openRefusal, openedAnswer, sealAnswer, sealOutput, sealRefusal, tagAgrees}
 use Rattle.icepole.specs.Bounds.{Bounded}
-use Rattle.icepole.specs.Sealing.{expectedTag, messageOf, opened, same, sealed, secretOf, tag, tagPart}
+use Rattle.icepole.specs.Sealing.{expectedTag, messageOf, same, sealed, secretOf, tag, tagPart}
 use Rattle.icepole.specs.Variants.{sizes}
 use Rattle.icepole.specs.declared.Variant.{Variant}
-use Rattle.bytes_le.proofs.Loads.{fits}
 use Rattle.icepole.proofs.Bounds.{bounded}
 use Rattle.icepole.proofs.Numbers.{OpenFits, open-0, open-fits, seal-0}
 use Rattle.icepole.proofs.OpenedBytes.{message-bytes, secret-bytes}
-use Rattle.icepole.proofs.Opening.{length-message-of, length-sealed, length-secret-of, message-of-sealed, seal-open, secret-of-sealed, tag-of-sealed}
+use Rattle.icepole.proofs.Opening.{length-message-of, length-sealed, length-secret-of, message-of-sealed, opened, seal-open, secret-of-sealed, tag-of-sealed}
 use Rattle.claims.specs.Demand2.{Demand2, Genuine, Within, openDone, sealDone}
-use Rattle.claims.specs.Marked.{only}
 
 module _ (v : Variant) where
   h : Bounded (sizes v)
@@ -44,7 +42,7 @@ module _ (v : Variant) where
         (seal-0 (sizes v) (length k) (length n) (length s) (length a) (length m) (length out) (w .key-length) (w .nonce-length) (w .secret-length) (w .associated-length) (w .message-length) r) in
         (simp z, simp z)
 
-    is-length : openLength v k n a (sealed (sizes v) k n s a m) ≡ length m
+    is-length : openLength v (sealed (sizes v) k n s a m) ≡ length m
     is-length = rw length-of (omega arith)
 
     agree : tagAgrees (sizes v) k n a (sealed (sizes v) k n s a m) ≡ true
@@ -71,13 +69,13 @@ module _ (v : Variant) where
           λ out. simp z (ap (putBytes out 0) em),
         )
 
-    pub fits-out : (out : Bytes) → length m ≤ length out → fitsOutput v k n a (sealed (sizes v) k n s a m) out ≡ true
-    fits-out out r = le-leb (openLength v k n a (sealed (sizes v) k n s a m)) (length out) (rw is-length r)
+    pub fits-out : (out : Bytes) → length m ≤ length out → fitsOutput v (sealed (sizes v) k n s a m) out ≡ true
+    fits-out out r = le-leb (openLength v (sealed (sizes v) k n s a m)) (length out) (rw is-length r)
 
-  module _ (k n a c out : Bytes) (e : openRefusal v k n a c (fitsOutput v k n a c out) ≡ 0) where
-    facts : OpenFits (sizes v) (length k) (length n) (length a) (length c) (fitsOutput v k n a c out) (tagAgrees (sizes v) k n a c)
+  module _ (k n a c : Bytes) (fits : Bool) (e : openRefusal v k n a c fits ≡ 0) where
+    facts : OpenFits (sizes v) (length k) (length n) (length a) (length c) fits (tagAgrees (sizes v) k n a c)
     unfolding openRefusal
-    facts = open-fits (sizes v) (length k) (length n) (length a) (length c) (fitsOutput v k n a c out) (tagAgrees (sizes v) k n a c) e
+    facts = open-fits (sizes v) (length k) (length n) (length a) (length c) fits (tagAgrees (sizes v) k n a c) e
 
     abbrev s : Bytes
     s = secretOf (sizes v) k n c
@@ -91,13 +89,12 @@ module _ (v : Variant) where
         let t : same (expectedTag (sizes v) k n a c) (tagPart c) ≡ true = facts .tag in
         simp (le-leb (sizes v .secret + 16) (length c) (facts .sealed), t)
 
-    pub genuine : Genuine v k n a c out
+    pub genuine : Genuine v k n a c fits
     unfolding openAnswer openOutput
     genuine =
         let f = facts in
         let ls = length-secret-of (sizes v) (bounded v .some) (bounded v .block) less k n a c (f .sealed) in
         let lm = length-message-of (sizes v) (bounded v .some) (bounded v .block) less k n a c (f .sealed) in
-        let r = leb-true (openLength v k n a c) (length out) (f .room) in
         record {
           secret = s;
           message = m;
@@ -108,19 +105,25 @@ module _ (v : Variant) where
             associated-length = f .associated;
             message-length = rw lm (f .message);
           };
-          room = rw lm r;
           sealed-is = seal-open (sizes v) (bounded v .some) (bounded v .block) less k n a c s m it-opens;
+          room = f .room;
           answer = simp e (ap (λ (i : ℕ). openDone i (secretOf (sizes v) k n c)) (sym lm));
-          output = simp e;
+          output = λ out. simp e;
+          bytes = λ hc. (secret-bytes (sizes v) k n a c hc, message-bytes (sizes v) k n a c hc);
         }
+
+  withheld : (k n a c : Bytes) (fits : Bool) → (openRefusal v k n a c fits ≡ 0 → ⊥)
+      → (openAnswer v k n a c fits ≡ openedAnswer (openRefusal v k n a c fits) 0 []) × ((out : Bytes) → openOutput v k n a c fits out ≡ out)
+  unfolding openAnswer openOutput
+  withheld k n a c fits e = let z = ne-eqb (openRefusal v k n a c fits) 0 e in (simp z, λ out. simp z)
 
 pub demand2 : Demand2
 demand2 =
     record {
       seals = λ v k n s a m out w r. seal-does v k n s a m w out r;
       sealed-length = length-of;
-      opens = λ v k n s a m out w r. let x = open-does v k n s a m w _ (fits-out v k n s a m w out r) in (x .0, x .1 out);
-      verifies = λ v k n s a m w. open-does v k n s a m w true refl .0;
+      opens = λ v k n s a m w. open-does v k n s a m w true refl;
+      fits = λ v k n s a m out w r. fits-out v k n s a m w out r;
       only = genuine;
-      gives-bytes = λ v k n a c hc. (secret-bytes (sizes v) k n a c hc, message-bytes (sizes v) k n a c hc);
+      withholds = withheld;
     }

@@ -2,9 +2,9 @@
 -- Assumes nothing.
 use mathlib.Core.Path.{_≡_, refl, sym, ap, ap₂, _∙_}
 use mathlib.Core.Bool.{true, false}
-use mathlib.Core.List.{[], _∷_}
+use mathlib.Core.List.{[], _∷_, List}
 use mathlib.Core.Logic.{⊎-elim}
-use Prim.Native.Nat.{ℕ, zero, suc, _+_, _-_, _*_, _/_, _%_, _^_, _<_}
+use Prim.Native.Nat.{ℕ, zero, suc, _+_, _-_, _*_, _/_, _%_, _^_, _<_, _≤_}
 use native.Mathlib.Nat.{zero-div, not-suc-le-zero, le-of-suc-le-suc, eq-zero-or-pos}
 use native.Mathlib.Omega.{arith}
 use lib.Bits.{bitXor, xor-zero-r}
@@ -12,10 +12,10 @@ use lib.Dec.{eqb}
 use lib.ListN.{length, getD, drop, List·getD-append, length-append, List·getD-eq-default}
 use lib.Pow.{shr-shr}
 use lib.Seq.{getD-take, getD-drop, getD-append-seam}
-use Rattle.bits.specs.Bits.{_⊕_, bit}
+use Rattle.bits.specs.Bits.{bit, _⊕_ as _⊻_}
 use Rattle.bytes_le.specs.Bytes.{Bytes, le}
-use Rattle.icepole.specs.Sealing.{pad, xorWith}
-use Rattle.permutation.specs.State.{state}
+use Rattle.icepole.specs.Sealing.{_⊕_, pad, xorWith}
+use Rattle.permutation.specs.State.{at, state, tabulate}
 use Rattle.state_bytes.specs.StateBytes.{bytesOf, wordOf}
 use Rattle.bits.proofs.Cases.{two}
 use Rattle.bits.proofs.Laws.{bit-low, bit-shr, bit-xor}
@@ -59,6 +59,20 @@ state-bit S w z hw hz =
     ∙ ap (λ (l : Bytes). getD l (z / 8) 0) (bytes-word (state S) (formed S) w hw))
     ∙ bit-of 8 (wordOf (state S) w) (z / 8) (z % 8) (omega arith) (omega arith)
     ∙ ap (bit (wordOf (state S) w)) ez
+
+getD-tabulate : {A : Type 0} (n : ℕ) (f : ℕ → A) (i : ℕ) (d : A) → i < n → getD (tabulate n f) i d ≡ f i
+getD-tabulate zero f i d h = absurd (not-suc-le-zero h)
+getD-tabulate (suc n) f zero d h = refl
+getD-tabulate (suc n) f (suc i) d h = getD-tabulate n (λ k. f (suc k)) i d (le-of-suc-le-suc h)
+
+paper-bit : (S : ℕ → ℕ → ℕ) (x y z : ℕ) → x < 4 → y < 5 → z < 64 → bitOf (bytesOf (state S)) (64 * (x + 4 * y) + z) ≡ bit (S x y) z
+paper-bit S x y z hx hy hz =
+    let ex : (x + 4 * y) % 4 ≡ x = omega arith in
+    let ey : (x + 4 * y) / 4 ≡ y = omega arith in
+    state-bit S (x + 4 * y) z (omega arith) hz
+    ∙ ap₂ (λ (i j : ℕ). bit (at (state S) i j) z) ex ey
+    ∙ ap (λ (l : List ℕ). bit (getD l y 0) z) (getD-tabulate 4 (λ i. tabulate 5 (S i)) x [] hx)
+    ∙ ap (λ (w : ℕ). bit w z) (getD-tabulate 5 (S x) y 0 hy)
 
 -- ---- the padding
 bit-none : (z : ℕ) → bit 0 z ≡ false
@@ -111,17 +125,28 @@ xor-at [] (y ∷ b) j h = absurd (not-suc-le-zero h)
 xor-at (x ∷ v) (y ∷ b) zero h = refl
 xor-at (x ∷ v) (y ∷ b) (suc j) h = xor-at v b j (le-of-suc-le-suc h)
 
-xor-bit : (v b : Bytes) (i : ℕ) → i < 8 * length v → bitOf (xorWith v b) i ≡ bitOf v i ⊕ bitOf b i
+xor-bit : (v b : Bytes) (i : ℕ) → i < 8 * length v → bitOf (xorWith v b) i ≡ bitOf v i ⊻ bitOf b i
 xor-bit v b i h =
     ap (λ (y : ℕ). bit y (i % 8)) (xor-at v b (i / 8) (omega arith)) ∙ bit-xor (getD v (i / 8) 0) (getD b (i / 8) 0) (i % 8)
+
+cipher-at : (v b : Bytes) (j : ℕ) → length b ≤ length v → j < length b → getD (v ⊕ b) j 0 ≡ bitXor (getD v j 0) (getD b j 0)
+cipher-at v [] j h l = absurd (not-suc-le-zero l)
+cipher-at [] (y ∷ b) j h l = absurd (not-suc-le-zero h)
+cipher-at (x ∷ v) (y ∷ b) zero h l = refl
+cipher-at (x ∷ v) (y ∷ b) (suc j) h l = cipher-at v b j (le-of-suc-le-suc h) (le-of-suc-le-suc l)
+
+cipher-bit : (v b : Bytes) (i : ℕ) → length b ≤ length v → i < 8 * length b → bitOf (v ⊕ b) i ≡ bitOf v i ⊻ bitOf b i
+cipher-bit v b i h l =
+    ap (λ (y : ℕ). bit y (i % 8)) (cipher-at v b (i / 8) h (omega arith)) ∙ bit-xor (getD v (i / 8) 0) (getD b (i / 8) 0) (i % 8)
 
 pub paper-bits : PaperBits
 paper-bits =
     record {
-      state-bits = state-bit;
+      state-bits = paper-bit;
       pad-block = front;
       pad-frame = frame-bit;
       pad-one = one-bit;
       pad-zeros = zero-bits;
       xor-bits = xor-bit;
+      cipher-bits = cipher-bit;
     }

@@ -1,19 +1,20 @@
 -- Demand 2. "Sealing equals ICEPOLE-128, 128a and 256a .. on every message within the limits; opening returns the message for exactly those bytes that
 -- sealing gives under the same key, nonce and associated data." It is about what the calls answer and leave: the contracts of `icepole::seal`, `verify` and
--- `open_message` say that their answers are `sealAnswer` and `openAnswer`, and that the output is then `sealOutput` and `openOutput`.
+-- `open_message` say that their answers are `sealAnswer` and `openAnswer`, and that the output is then `sealOutput` and `openOutput`, where ad is the joining
+-- of the two parts. `fits` says whether the answer fits into what is lent for it: `fitsOutput` for `open_message`, `fitsBoth` for the C opening, true for `verify`.
 -- Assumes nothing.
 use mathlib.Core.Path.{_≡_}
 use mathlib.Core.Bool.{Bool, true}
-use mathlib.Core.List.{List, [], _∷_}
-use Prim.Native.Nat.{ℕ, _+_, _≤_, _<_}
+use mathlib.Core.List.{[]}
+use Prim.Native.Nat.{ℕ, _+_, _≤_}
 use lib.ListN.{length, replicate}
 use Rattle.bytes_le.specs.Bytes.{Bytes, AllBytes, putBytes}
 use Rattle.icepole.specs.declared.Variant.{Variant}
 use Rattle.icepole.specs.declared.Sealed.{Sealed}
 use Rattle.icepole.specs.declared.Opened.{Opened}
 use Rattle.icepole.specs.Variants.{sizes}
-use Rattle.icepole.specs.Sealing.{sealed, secretOf, messageOf}
-use Rattle.icepole.specs.Answers.{maxLength, sealAnswer, sealOutput, openRefusal, openAnswer, openOutput, fitsOutput}
+use Rattle.icepole.specs.Sealing.{sealed}
+use Rattle.icepole.specs.Answers.{maxLength, sealAnswer, sealOutput, openedAnswer, openRefusal, openAnswer, openOutput, fitsOutput}
 
 -- key, nonce and secret number have the variant's lengths, and the data is within the limits
 pub record Within (v : Variant) (key nonce secret ad m : Bytes) : Type 0 where
@@ -32,31 +33,34 @@ abbrev pub openDone : ℕ → Bytes → Opened
 openDone count secret = record { refusal = 0; mark = 0; length = count; secret = putBytes (replicate 16 0) 0 secret }
 
 -- c is what sealing gives for some secret number and message within the limits, and these are what opening c answers and writes
-pub record Genuine (v : Variant) (key nonce ad c out : Bytes) : Type 0 where
+pub record Genuine (v : Variant) (key nonce ad c : Bytes) (fits : Bool) : Type 0 where
   pub secret : Bytes
   pub message : Bytes
   pub within : Within v key nonce secret ad message
-  pub room : length message ≤ length out
   pub sealed-is : c ≡ sealed (sizes v) key nonce secret ad message
-  pub answer : openAnswer v key nonce ad c (fitsOutput v key nonce ad c out) ≡ openDone (length message) secret
-  pub output : openOutput v key nonce ad c (fitsOutput v key nonce ad c out) out ≡ putBytes out 0 message
+  pub room : fits ≡ true
+  pub answer : openAnswer v key nonce ad c fits ≡ openDone (length message) secret
+  pub output : (out : Bytes) → openOutput v key nonce ad c fits out ≡ putBytes out 0 message
+  pub bytes : AllBytes c → AllBytes secret × AllBytes message
 
 pub record Demand2 : Type 0 where
   -- sealing within the limits, into an output with room, is done, and writes the sealed message at its front
   pub seals : (v : Variant) (key nonce secret ad m out : Bytes) → Within v key nonce secret ad m → sizes v .secret + (length m + 16) ≤ length out
       → (sealAnswer v key nonce secret ad m out ≡ sealDone (sizes v .secret + (length m + 16)))
       × (sealOutput v key nonce secret ad m out ≡ putBytes out 0 (sealed (sizes v) key nonce secret ad m))
-  -- a sealed message has the length of its message, and secret number and tag
+  -- a sealed message is the secret number and the tag longer than its message
   pub sealed-length : (v : Variant) (key nonce secret ad m : Bytes) → Within v key nonce secret ad m
       → length (sealed (sizes v) key nonce secret ad m) ≡ sizes v .secret + (length m + 16)
-  -- opening what sealing gives, into an output with room, is done, and gives back secret number and message
-  pub opens : (v : Variant) (key nonce secret ad m out : Bytes) → Within v key nonce secret ad m → length m ≤ length out
-      → (openAnswer v key nonce ad (sealed (sizes v) key nonce secret ad m) (fitsOutput v key nonce ad (sealed (sizes v) key nonce secret ad m) out) ≡ openDone (length m) secret)
-      × (openOutput v key nonce ad (sealed (sizes v) key nonce secret ad m) (fitsOutput v key nonce ad (sealed (sizes v) key nonce secret ad m) out) out ≡ putBytes out 0 m)
-  -- verifying it answers the same
-  pub verifies : (v : Variant) (key nonce secret ad m : Bytes) → Within v key nonce secret ad m
-      → openAnswer v key nonce ad (sealed (sizes v) key nonce secret ad m) true ≡ openDone (length m) secret
+  -- opening what sealing gives, where the answer fits, is done, and gives back secret number and message
+  pub opens : (v : Variant) (key nonce secret ad m : Bytes) → Within v key nonce secret ad m
+      → (openAnswer v key nonce ad (sealed (sizes v) key nonce secret ad m) true ≡ openDone (length m) secret)
+      × ((out : Bytes) → openOutput v key nonce ad (sealed (sizes v) key nonce secret ad m) true out ≡ putBytes out 0 m)
+  -- it fits into an output with room for the message
+  pub fits : (v : Variant) (key nonce secret ad m out : Bytes) → Within v key nonce secret ad m → length m ≤ length out
+      → fitsOutput v (sealed (sizes v) key nonce secret ad m) out ≡ true
   -- opening is done only on what sealing gives
-  pub only : (v : Variant) (key nonce ad c out : Bytes) → openRefusal v key nonce ad c (fitsOutput v key nonce ad c out) ≡ 0 → Genuine v key nonce ad c out
-  -- and what it then gives is bytes
-  pub gives-bytes : (v : Variant) (key nonce ad c : Bytes) → AllBytes c → AllBytes (secretOf (sizes v) key nonce c) × AllBytes (messageOf (sizes v) key nonce ad c)
+  pub only : (v : Variant) (key nonce ad c : Bytes) (fits : Bool) → openRefusal v key nonce ad c fits ≡ 0 → Genuine v key nonce ad c fits
+  -- otherwise it gives nothing: the answer is the number with zeros, and the output stays
+  pub withholds : (v : Variant) (key nonce ad c : Bytes) (fits : Bool) → (openRefusal v key nonce ad c fits ≡ 0 → ⊥)
+      → (openAnswer v key nonce ad c fits ≡ openedAnswer (openRefusal v key nonce ad c fits) 0 [])
+      × ((out : Bytes) → openOutput v key nonce ad c fits out ≡ out)

@@ -2,7 +2,7 @@
 -- Assumes nothing.
 use mathlib.Core.Path.{_≡_}
 use mathlib.Core.List.{List, [], _∷_, map}
-use Prim.Native.Nat.{ℕ, _+_, _^_}
+use Prim.Native.Nat.{ℕ, _^_}
 use lib.ListN.{replicate}
 use Rattle.bits.specs.Bits.{bit, number}
 use Rattle.bytes_le.specs.Bytes.{Bytes}
@@ -10,7 +10,7 @@ use Rattle.permutation.specs.State.{Grid, State, setWord, state}
 use Rattle.permutation.specs.Permutation.{μ, ρ, π, sbox}
 use Rattle.state_bytes.specs.StateBytes.{stateOf}
 use Rattle.icepole.specs.Sealing.{xorWith, pad}
-use Rattle.burst.specs.Layout.{edition1, entryLength}
+use Rattle.burst.specs.Layout.{edition1, closingOffset}
 use Rattle.burst.specs.Plain.{Plain, keepShot, dropShot, closeBurst, usedOf, totalOf, headerOf, plainOf}
 
 -- the state with S[x][y] = w and zeros elsewhere
@@ -22,8 +22,8 @@ abbrev pub sboxOf : ℕ → ℕ
 sboxOf n = number 5 (sbox (bit n))
 
 -- the zero state with a padded block xored in
-abbrev pub absorbed : Bytes → ℕ → State
-absorbed b frame = stateOf (xorWith (replicate 160 0) (pad b frame))
+abbrev pub xoredIn : Bytes → ℕ → State
+xoredIn b frame = stateOf (xorWith (replicate 160 0) (pad b frame))
 
 -- burst 7 with drop, keep of 3 bytes, drop (01, "Afterwards"), closed in a buffer of 111 bytes; the key, the site mark, the stamp and the picture do not matter here
 abbrev pub burst7 : Plain
@@ -67,11 +67,11 @@ marked =
     ∷ (π (only 0 0 0x0123456789ABCDEF) is only 0 1 0x0123456789ABCDEF)
     ∷ (π (only 3 4 0x0123456789ABCDEF) is only 3 3 0x0123456789ABCDEF)
     ∷ (ρ (only 1 0 (2 ^ 63)) is only 1 0 1)
-    ∷ (absorbed [] 0 is only 0 0 2)
-    ∷ (absorbed (replicate 128 0) 1 is only 0 4 3)
+    ∷ (xoredIn [] 0 is only 0 0 2)
+    ∷ (xoredIn (replicate 128 0) 1 is only 0 4 3)
     ∷ ((headerOf edition1 burst7 ∷ []) is (header7 ∷ []))
     ∷ (the (usedOf edition1 burst7) is the 67)
-    ∷ (the (usedOf edition1 burst7 + entryLength) is the 79)
+    ∷ (the (closingOffset (usedOf edition1 burst7) 1) is the 79)
     ∷ (the (totalOf edition1 burst7) is the 111)
     ∷ []
 

@@ -3,24 +3,27 @@
 -- Assumes nothing.
 use mathlib.Core.Path.{_≡_}
 use mathlib.Core.Bool.{Bool, true, false}
-use Prim.Native.Nat.{ℕ, _+_, _*_, _/_, _%_, _<_}
+use Prim.Native.Nat.{ℕ, _+_, _*_, _/_, _%_, _≤_, _<_}
 use lib.Dec.{eqb}
 use lib.ListN.{length, getD}
-use Rattle.bits.specs.Bits.{_⊕_, bit}
+use Rattle.bits.specs.Bits.{bit, _⊕_ as _⊻_}
 use Rattle.bytes_le.specs.Bytes.{Bytes}
 use Rattle.permutation.specs.State.{state}
-use Rattle.state_bytes.specs.StateBytes.{wordOf, bytesOf}
-use Rattle.icepole.specs.Sealing.{xorWith, pad}
+use Rattle.state_bytes.specs.StateBytes.{bytesOf}
+use Rattle.icepole.specs.Sealing.{_⊕_, xorWith, pad}
 
 -- bit i of a run of bytes; past its end there are zeros
 abbrev pub bitOf : Bytes → ℕ → Bool
 bitOf b i = bit (getD b (i / 8) 0) (i % 8)
 
 pub record PaperBits : Type 0 where
-  pub state-bits : (S : ℕ → ℕ → ℕ) (w z : ℕ) → w < 20 → z < 64 → bitOf (bytesOf (state S)) (64 * w + z) ≡ bit (wordOf (state S) w) z
+  -- v[64(x + 4y) + z] = S[x][y][z] (003, 2.3)
+  pub state-bits : (S : ℕ → ℕ → ℕ) (x y z : ℕ) → x < 4 → y < 5 → z < 64 → bitOf (bytesOf (state S)) (64 * (x + 4 * y) + z) ≡ bit (S x y) z
   -- a block of L bytes, L = length b, with the frame bit f
   pub pad-block : (b : Bytes) (f i : ℕ) → i < 8 * length b → bitOf (pad b f) i ≡ bitOf b i
   pub pad-frame : (b : Bytes) (f : ℕ) → f < 2 → bitOf (pad b f) (8 * length b) ≡ eqb f 1
   pub pad-one : (b : Bytes) (f : ℕ) → f < 2 → bitOf (pad b f) (8 * length b + 1) ≡ true
   pub pad-zeros : (b : Bytes) (f : ℕ) → f < 2 → (i : ℕ) → bitOf (pad b f) (8 * length b + (2 + i)) ≡ false
-  pub xor-bits : (v b : Bytes) (i : ℕ) → i < 8 * length v → bitOf (xorWith v b) i ≡ bitOf v i ⊕ bitOf b i
+  pub xor-bits : (v b : Bytes) (i : ℕ) → i < 8 * length v → bitOf (xorWith v b) i ≡ bitOf v i ⊻ bitOf b i
+  -- the same of a ciphertext
+  pub cipher-bits : (v b : Bytes) (i : ℕ) → length b ≤ length v → i < 8 * length b → bitOf (v ⊕ b) i ≡ bitOf v i ⊻ bitOf b i

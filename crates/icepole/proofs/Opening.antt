@@ -12,7 +12,7 @@ use borrow.Author.Tests.{eq-eqb, eqb-true, le-leb, leb-true}
 use mathlib.Core.Option.{Option, some, none}
 use Rattle.bytes_le.specs.Bytes.{Bytes}
 use Rattle.state_bytes.proofs.Lengths.{length-permuted}
-use Rattle.icepole.specs.Sealing.{_⊕_, absorb, absorbMessage, decrypt, encrypt, expectedTag, keyed, messageOf, messagePart, opened, pick, ready, readyOf, same, sealed, secretOf, secretPart, tag, tagPart}
+use Rattle.icepole.specs.Sealing.{_⊕_, absorb, absorbMessage, decrypt, encrypt, expectedTag, keyed, messageOf, messagePart, pick, ready, readyOf, same, sealed, secretOf, secretPart, tag, tagPart}
 use Rattle.icepole.specs.declared.Sizes.{Sizes}
 use Rattle.icepole.proofs.Blocks.{decrypt-encrypt, encrypt-decrypt, length-associated, length-decrypt, length-encrypt, length-message}
 use Rattle.icepole.proofs.Xor.{length-xor, xor-twice}
@@ -36,6 +36,13 @@ same-true (x ∷ xs) [] e = let z : _≡_ {A = ℕ} 0 1 = cc in absurd (omega ar
 same-true (x ∷ xs) (y ∷ ys) e =
     let p = pick-test (eqb x y) (same xs ys) e in
     ap₂ (λ (a : ℕ) (l : Bytes). a ∷ l) (eqb-true x y (p .0)) (same-true xs ys (p .1))
+
+-- the secret number and the message, where the tag agrees
+unfoldable pub opened : Sizes → Bytes → Bytes → Bytes → Bytes → Option (Bytes × Bytes)
+opened q key nonce ad c =
+    pick (leb (q .secret + 16) (length c))
+    (pick (same (expectedTag q key nonce ad c) (tagPart c)) (some (secretOf q key nonce c, messageOf q key nonce ad c)) none)
+    none
 
 pub length-keyed : (k n : Bytes) → length (keyed k n) ≡ 160
 unfolding keyed

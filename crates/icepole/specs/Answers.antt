@@ -84,22 +84,21 @@ module _ (v : Variant) (key nonce secret ad m out : Bytes) where
 unfoldable pub tagAgrees : Sizes → Bytes → Bytes → Bytes → Bytes → Bool
 tagAgrees q key nonce ad c = same (expectedTag q key nonce ad c) (tagPart c)
 
-module _ (v : Variant) (key nonce ad c : Bytes) where
-  -- the length of the message that c implies
-  abbrev pub openLength : ℕ
-  openLength = length c - (sizes v .secret + 16)
+-- the length of the message that c implies
+abbrev pub openLength : Variant → Bytes → ℕ
+openLength v c = length c - (sizes v .secret + 16)
 
-  module _ (fits : Bool) where
-    unfoldable pub openRefusal : ℕ
-    openRefusal = openNumber (sizes v) (length key) (length nonce) (length ad) (length c) fits (tagAgrees (sizes v) key nonce ad c)
+-- whether that message fits into an output. Verifying writes nothing: what it answers always fits
+abbrev pub fitsOutput : Variant → Bytes → Bytes → Bool
+fitsOutput v c out = leb (openLength v c) (length out)
 
-    -- the message's length and the secret number
-    unfoldable pub openAnswer : Opened
-    openAnswer = openedAnswer openRefusal openLength (secretOf (sizes v) key nonce c)
+module _ (v : Variant) (key nonce ad c : Bytes) (fits : Bool) where
+  unfoldable pub openRefusal : ℕ
+  openRefusal = openNumber (sizes v) (length key) (length nonce) (length ad) (length c) fits (tagAgrees (sizes v) key nonce ad c)
 
-    unfoldable pub openOutput : Bytes → Bytes
-    openOutput out = unless openRefusal out (putBytes out 0 (messageOf (sizes v) key nonce ad c))
+  -- the message's length and the secret number
+  unfoldable pub openAnswer : Opened
+  openAnswer = openedAnswer openRefusal (openLength v c) (secretOf (sizes v) key nonce c)
 
-  -- opening into an output needs room for the message; verifying writes nothing, and what it answers always fits
-  abbrev pub fitsOutput : Bytes → Bool
-  fitsOutput out = leb openLength (length out)
+  unfoldable pub openOutput : Bytes → Bytes
+  openOutput out = unless openRefusal out (putBytes out 0 (messageOf (sizes v) key nonce ad c))

@@ -2,10 +2,9 @@
 -- Assumes nothing.
 use mathlib.Core.Bool.{Bool, true, false}
 use mathlib.Core.List.{List, [], _∷_, _++_}
-use mathlib.Core.Option.{Option, some, none}
 use Prim.Native.Nat.{ℕ, zero, suc, _+_, _-_, _/_}
 use lib.Bits.{bitXor}
-use lib.Dec.{eqb, leb}
+use lib.Dec.{eqb}
 use lib.ListN.{length, take, drop, replicate}
 use Rattle.bytes_le.specs.Bytes.{Bytes}
 use Rattle.state_bytes.specs.StateBytes.{permuted, startBytes}
@@ -13,7 +12,7 @@ use Rattle.icepole.specs.declared.Sizes.{Sizes}
 
 -- ---- exclusive or
 infixl 32 _⊕_
--- the first bytes of v, as many as b has, xored with b
+-- the first bytes of v, as many as b has, xored with b (of bits, ⊕ is in `bits`)
 abbrev pub _⊕_ : Bytes → Bytes → Bytes
 [] ⊕ b = []
 (x ∷ v) ⊕ [] = []
@@ -35,7 +34,7 @@ unfoldable pub absorb : Bytes → Bytes → ℕ → Bytes
 absorb v b frame = permuted 6 (xorWith v (pad b frame))
 
 -- ---- data in blocks of r bytes
--- how many blocks stand before the last, for n bytes. They are full; no data is one empty block; a positive multiple of r has no block more
+-- how many blocks stand before the last, for n bytes (01, "The paper leaves this open, and we fix it"). They are full; no data is one empty block; a positive multiple of r has no block more
 unfoldable pub blocksBefore : ℕ → ℕ → ℕ
 blocksBefore r n = (n - 1) / r
 
@@ -74,7 +73,7 @@ module _ (r : ℕ) where
 unfoldable pub keyed : Bytes → Bytes → Bytes
 keyed key nonce = permuted 12 (xorWith startBytes (key ++ (nonce ++ replicate (16 - length nonce) 0)))
 
--- after the secret-number block, which is empty in a variant without secret number, and the associated blocks
+-- the state after the secret-number block, which is empty in a variant without secret number, and the associated blocks
 unfoldable pub ready : ℕ → Bytes → Bytes → Bytes → Bytes
 ready r v secret ad = absorbAssociated r (absorb v secret 0) ad
 
@@ -90,6 +89,7 @@ sealed q key nonce secret ad m =
     (v ⊕ secret) ++ (encrypt (q .block) u m ++ tag (absorbMessage (q .block) u m))
 
 -- ---- opening (003, 2.9)
+-- a where the test holds, else b
 abbrev pub pick : {A : Type 0} → Bool → A → A → A
 pick true a b = a
 pick false a b = b
@@ -123,10 +123,3 @@ messageOf q key nonce ad c = decrypt (q .block) (readyOf q key nonce ad c) (mess
 
 unfoldable pub expectedTag : Sizes → Bytes → Bytes → Bytes → Bytes → Bytes
 expectedTag q key nonce ad c = tag (absorbMessage (q .block) (readyOf q key nonce ad c) (messageOf q key nonce ad c))
-
--- the secret number and the message, where the tag agrees
-unfoldable pub opened : Sizes → Bytes → Bytes → Bytes → Bytes → Option (Bytes × Bytes)
-opened q key nonce ad c =
-    pick (leb (q .secret + 16) (length c))
-    (pick (same (expectedTag q key nonce ad c) (tagPart c)) (some (secretOf q key nonce c, messageOf q key nonce ad c)) none)
-    none

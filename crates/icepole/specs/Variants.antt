@@ -1,4 +1,4 @@
--- The three variants (003, 2.2, 2.10 and 2.11; 01, "Sealing and opening").
+-- The three variants (003, 2.2, 2.7, 2.10 and 2.11; 01, "Sealing and opening").
 -- Assumes nothing.
 use Rattle.icepole.specs.declared.Sizes.{Sizes}
 use Rattle.icepole.specs.declared.Variant.{Variant}

@@ -11,7 +11,7 @@ ghost use Rattle.bytes_le.specs.Bytes.{putBytes};
 ghost use Rattle.state_bytes.specs.StateBytes.{wordOf, bytesOf, permuted};
 ghost use Rattle.icepole.specs.Variants.{sizes};
 ghost use Rattle.icepole.specs.Sealing.{_⊕_, xorWith, same, keyed, absorb, absorbAssociated, absorbMessage, encrypt, decrypt, sealed, secretOf, readyOf, tag, messagePart, tagPart};
-ghost use Rattle.icepole.specs.Answers.{sealNumber, openNumber, sealAnswer, sealOutput, openedAnswer, openAnswer, openOutput, fitsOutput};
+ghost use Rattle.icepole.specs.Answers.{maxLength, sealNumber, openNumber, sealAnswer, sealOutput, openedAnswer, openAnswer, openOutput, fitsOutput};
 ghost use Rattle.icepole.specs.Bounds.{Bounded};
 
 pub enum Variant {
@@ -88,8 +88,7 @@ pub fn sizes_of(v: Variant) -> Sizes
     }
 }
 
-// ---- one block, byte by byte
-// The frame bit and the 1 after a block of n bytes that is xored in, and the permutation.
+// The state after a block of n bytes that is already xored into v: the frame bit and the 1 are added, then P6.
 fn finish_bytes(v: [u8; 160], n: usize, frame: u8) -> State
     requires { ⌜ (n < 160) × (frame < 2) ⌝ }
     ensures { λ r. ⌜ bytesOf r ≡ permuted 6 (set v n (bitXor (getD v n 0) (frame + 2))) ⌝ }
@@ -100,7 +99,7 @@ fn finish_bytes(v: [u8; 160], n: usize, frame: u8) -> State
 }
 
 // ---- full blocks, word by word
-// The same after a block of n words.
+// The same for a block of n words.
 fn finish_words(s: State, n: usize, frame: u64) -> State
     requires { ⌜ (n < 20) × (frame < 2) ⌝ }
     ensures { λ r. ⌜ bytesOf r ≡ permuted 6 (bytesOf (setWord s (n % 4) (n / 4) (bitXor (wordOf s n) (frame + 2)))) ⌝ }
@@ -149,7 +148,7 @@ fn encrypt_words(s: State, m: &[u8], at: usize, n: usize, out: &mut [u8], to: us
     finish_words(t, n, 1)
 }
 
-// The state after the message of a block of n words of ciphertext.
+// The state after the message of a block of n words of ciphertext. State xor message is the ciphertext, so its words take the place of the state's.
 fn verify_words(s: State, c: &[u8], at: usize, n: usize) -> State
     requires { ⌜ (n < 20) × (at + 8 * n ≤ length (now c)) ⌝ }
     ensures { λ r. ⌜ bytesOf r ≡ absorb (bytesOf s) (bytesOf s ⊕ take (8 * n) (drop at (now (c .entry)))) 1 ⌝ }
@@ -288,7 +287,7 @@ fn encrypt_bytes(
     finish_bytes(b, n, frame)
 }
 
-// The state after the message of a block of ciphertext.
+// The state after the message of a block of ciphertext, whose bytes take the place of the state's.
 fn verify_bytes(v: [u8; 160], c: &[u8], at: usize, n: usize, frame: u8) -> State
     requires { ⌜ (at + n ≤ length (now c)) × (n < 160) × (frame < 2) ⌝ }
     ensures { λ r. ⌜ bytesOf r ≡ absorb v (v ⊕ take n (drop at (now (c .entry)))) frame ⌝ }
@@ -339,7 +338,7 @@ fn decrypt_last(v: [u8; 160], c: &[u8], at: usize, n: usize, out: &mut [u8], to:
     }
 }
 
-// Whether the tag of v is the 16 bytes of c from index at on. It takes the same time wherever they differ.
+// Whether the tag of v is the 16 bytes of c from index at on. All sixteen differences are gathered before the one test.
 fn tag_matches(v: [u8; 160], c: &[u8], at: usize) -> bool
     requires { ⌜ at + 16 ≤ length (now c) ⌝ }
     ensures { λ r. ⌜ r ≡ same (take 16 v) (take 16 (drop at (now (c .entry)))) ⌝ }
@@ -353,7 +352,7 @@ fn tag_matches(v: [u8; 160], c: &[u8], at: usize) -> bool
     d == 0
 }
 
-// The state after key and nonce.
+// The state after key and nonce. The zero bytes after a nonce of 12 change nothing, and are not xored in.
 fn keyed_state(key: &[u8], nonce: &[u8]) -> State
     requires { ⌜ (length (now key) ≤ 32) × (length (now nonce) ≤ 16) ⌝ }
     ensures { λ r. ⌜ bytesOf r ≡ keyed (now (key .entry)) (now (nonce .entry)) ⌝ }
@@ -443,7 +442,7 @@ fn decrypt_message(v: State, n: usize, c: &[u8], from: usize, l: usize, out: &mu
     decrypt_last(state_bytes::to_bytes(s), c, from + at, l - at, out, at);
 }
 
-// The bytes of a sealed message. All sizes fit.
+// Writes the sealed message at the front of out. All sizes fit.
 fn seal_into(
     q: Sizes,
     key: &[u8],
@@ -455,7 +454,7 @@ fn seal_into(
     out: &mut [u8],
 )
     requires { ⌜ Bounded q × (length (now key) ≡ q .key) × (length (now nonce) ≡ q .nonce) × (length (now secret) ≡ q .secret)
-        × (length (now first) + length (now second) ≤ 67108864) × (q .secret + (length (now message) + 16) ≤ length (now out)) ⌝ }
+        × (length (now first) + length (now second) ≤ maxLength) × (q .secret + (length (now message) + 16) ≤ length (now out)) ⌝ }
     ensures { λ _. ⌜ now (out .exit) ≡ putBytes (now (out .entry)) 0
         (sealed q (now (key .entry)) (now (nonce .entry)) (now (secret .entry)) (now (first .entry) ++ now (second .entry)) (now (message .entry))) ⌝ }
 {
@@ -468,7 +467,7 @@ fn seal_into(
     bytes_le::put_bytes(out, n + message.len(), &w[0..16]);
 }
 
-// The state after the secret number and the associated data of a sealed message, and the secret number.
+// The state after the secret number and the associated data of a sealed message; the secret number is put into secret.
 fn open_ready(
     q: Sizes,
     key: &[u8],
@@ -479,7 +478,7 @@ fn open_ready(
     secret: &mut [u8],
 ) -> State
     requires { ⌜ Bounded q × (length (now key) ≡ q .key) × (length (now nonce) ≡ q .nonce)
-        × (length (now first) + length (now second) ≤ 67108864) × (q .secret ≤ length (now c)) × (length (now secret) ≡ 16) ⌝ }
+        × (length (now first) + length (now second) ≤ maxLength) × (q .secret ≤ length (now c)) × (length (now secret) ≡ 16) ⌝ }
     ensures { λ r. ⌜ (bytesOf r ≡ readyOf q (now (key .entry)) (now (nonce .entry)) (now (first .entry) ++ now (second .entry)) (now (c .entry)))
         × (now (secret .exit) ≡ putBytes (now (secret .entry)) 0 (secretOf q (now (key .entry)) (now (nonce .entry)) (now (c .entry)))) ⌝ }
 {
@@ -704,8 +703,8 @@ pub fn open_message(
     sealed: &[u8],
     out: &mut [u8],
 ) -> Opened
-    ensures { λ r. ⌜ (r ≡ openAnswer v (now (key .entry)) (now (nonce .entry)) (now (first .entry) ++ now (second .entry)) (now (sealed .entry)) (fitsOutput v (now (key .entry)) (now (nonce .entry)) (now (first .entry) ++ now (second .entry)) (now (sealed .entry)) (now (out .entry))))
-        × (now (out .exit) ≡ openOutput v (now (key .entry)) (now (nonce .entry)) (now (first .entry) ++ now (second .entry)) (now (sealed .entry)) (fitsOutput v (now (key .entry)) (now (nonce .entry)) (now (first .entry) ++ now (second .entry)) (now (sealed .entry)) (now (out .entry))) (now (out .entry))) ⌝ }
+    ensures { λ r. ⌜ (r ≡ openAnswer v (now (key .entry)) (now (nonce .entry)) (now (first .entry) ++ now (second .entry)) (now (sealed .entry)) (fitsOutput v (now (sealed .entry)) (now (out .entry))))
+        × (now (out .exit) ≡ openOutput v (now (key .entry)) (now (nonce .entry)) (now (first .entry) ++ now (second .entry)) (now (sealed .entry)) (fitsOutput v (now (sealed .entry)) (now (out .entry))) (now (out .entry))) ⌝ }
 {
     let q = sizes_of(v);
     let fits = message_fits(q, sealed.len(), out.len());
@@ -723,7 +722,8 @@ pub fn open_message(
     }
     let mut secret = [0u8; 16];
     let u = open_ready(q, key, nonce, first, second, sealed, &mut secret);
-    if tag_agrees(q, u, sealed) {
+    let agrees = tag_agrees(q, u, sealed);
+    if agrees {
         let from = q.secret;
         let n = sealed.len() - (from + 16);
         decrypt_message(u, q.block / 8, sealed, from, n, out);

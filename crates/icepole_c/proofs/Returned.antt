@@ -58,31 +58,31 @@ short-call v k n f g c o t num h e =
     let some : num ≡ 0 → ⊥ =
     λ z. false-true (open-fits (sizes v) (length k) (length n) (length f + length g) (length c) false true (sym e ∙ z) .room) in
     let x = open-refused v (sizes v) refl k n f g c false num e some (openedAnswer num 0 []) refl in
-    refused-call v k n (f ++ g) c o t false (ap (λ (b : Bool). b && fitsOutput v k n (f ++ g) c o) b) num some
+    refused-call v k n (f ++ g) c o t false (ap (λ (b : Bool). b && fitsOutput v c o) b) num some
     (open-refusal v k n (f ++ g) c false (openedAnswer num 0 []) (x .0)) (x .1 o)
 
 -- ---- it is long enough, and r is what opening answered
-module _ (v : Variant) (k n a c o t : Bytes) (r : Opened) (e : r ≡ openAnswer v k n a c (fitsOutput v k n a c o)) (h : 8 + sizes v .secret ≤ length t) where
-  both : fitsBoth v k n a c o t ≡ fitsOutput v k n a c o
-  both = ap (λ (b : Bool). b && fitsOutput v k n a c o) (le-leb (8 + sizes v .secret) (length t) h)
+module _ (v : Variant) (k n a c o t : Bytes) (r : Opened) (e : r ≡ openAnswer v k n a c (fitsOutput v c o)) (h : 8 + sizes v .secret ≤ length t) where
+  both : fitsBoth v k n a c o t ≡ fitsOutput v c o
+  both = ap (λ (b : Bool). b && fitsOutput v c o) (le-leb (8 + sizes v .secret) (length t) h)
 
-  refusal-is : r .refusal ≡ openRefusal v k n a c (fitsOutput v k n a c o)
-  refusal-is = open-refusal v k n a c (fitsOutput v k n a c o) r e
+  refusal-is : r .refusal ≡ openRefusal v k n a c (fitsOutput v c o)
+  refusal-is = open-refusal v k n a c (fitsOutput v c o) r e
 
-  pub open-refused-call : (r .refusal ≡ 0 → ⊥) → (o′ : Bytes) → o′ ≡ openOutput v k n a c (fitsOutput v k n a c o) o
+  pub open-refused-call : (r .refusal ≡ 0 → ⊥) → (o′ : Bytes) → o′ ≡ openOutput v k n a c (fitsOutput v c o) o
       → (r .refusal ≡ callRefusal v k n a c o t) × (o′ ≡ callOutput v k n a c o t) × (t ≡ callInfo v k n a c o t)
   open-refused-call z o′ eo =
       let e′ : r .refusal ≡ callRefusal v k n a c o t = refusal-is ∙ ap (openRefusal v k n a c) (sym both) in
       (e′, eo ∙ ap (λ (b : Bool). openOutput v k n a c b o) (sym both), untold v k n a c o t (r .refusal) z e′)
 
   module _ (z : r .refusal ≡ 0) where
-    answered : r ≡ openedAnswer 0 (openLength v k n a c) (secretOf (sizes v) k n c)
+    answered : r ≡ openedAnswer 0 (openLength v c) (secretOf (sizes v) k n c)
     unfolding openAnswer
-    answered = e ∙ ap (λ (i : ℕ). openedAnswer i (openLength v k n a c) (secretOf (sizes v) k n c)) (sym refusal-is ∙ z)
+    answered = e ∙ ap (λ (i : ℕ). openedAnswer i (openLength v c) (secretOf (sizes v) k n c)) (sym refusal-is ∙ z)
 
-    fits : OpenFits (sizes v) (length k) (length n) (length a) (length c) (fitsOutput v k n a c o) (tagAgrees (sizes v) k n a c)
+    fits : OpenFits (sizes v) (length k) (length n) (length a) (length c) (fitsOutput v c o) (tagAgrees (sizes v) k n a c)
     unfolding openRefusal
-    fits = open-fits (sizes v) (length k) (length n) (length a) (length c) (fitsOutput v k n a c o) (tagAgrees (sizes v) k n a c) (sym refusal-is ∙ z)
+    fits = open-fits (sizes v) (length k) (length n) (length a) (length c) (fitsOutput v c o) (tagAgrees (sizes v) k n a c) (sym refusal-is ∙ z)
 
     length-secret : length (secretOf (sizes v) k n c) ≡ sizes v .secret
     length-secret =
@@ -100,7 +100,7 @@ module _ (v : Variant) (k n a c o t : Bytes) (r : Opened) (e : r ≡ openAnswer 
     told q eq t₁ t₂ e₁ e₂ =
         let f : sizes v .secret ≤ 16 = bounded v .secret in
         let l : length (secretOf (sizes v) k n c) ≡ sizes v .secret = length-secret in
-        let el : r .length ≡ openLength v k n a c = ap (λ (r : Opened). r .length) answered in
+        let el : r .length ≡ openLength v c = ap (λ (r : Opened). r .length) answered in
         let es : take (q .secret - 0) (r .secret) ≡ secretOf (sizes v) k n c =
         ap (λ (q : Sizes). take (q .secret - 0) (r .secret)) eq
         ∙ ap (λ (i : ℕ). take i (r .secret)) (sub-zero (sizes v .secret))
@@ -108,9 +108,9 @@ module _ (v : Variant) (k n a c o t : Bytes) (r : Opened) (e : r ≡ openAnswer 
         ∙ take-put (replicate 16 0) 0 (secretOf (sizes v) k n c) (sizes v .secret) (omega arith) (omega arith) in
         let y : callRefusal v k n a c o t ≡ 0 = ap (openRefusal v k n a c) both ∙ sym refusal-is ∙ z in
         e₂ ∙ ap₂ (λ (t s : Bytes). putBytes t 8 s) (e₁ ∙ ap (λ (i : ℕ). putBytes t 0 (le 8 i)) el) es
-        ∙ put-put t 0 (le 8 (openLength v k n a c)) (secretOf (sizes v) k n c) 8 refl (omega arith)
+        ∙ put-put t 0 (le 8 (openLength v c)) (secretOf (sizes v) k n c) 8 refl (omega arith)
         ∙ sym (simp y)
 
-    pub opened-call : (o′ : Bytes) → o′ ≡ openOutput v k n a c (fitsOutput v k n a c o) o → (0 ≡ callRefusal v k n a c o t) × (o′ ≡ callOutput v k n a c o t)
+    pub opened-call : (o′ : Bytes) → o′ ≡ openOutput v k n a c (fitsOutput v c o) o → (0 ≡ callRefusal v k n a c o t) × (o′ ≡ callOutput v k n a c o t)
     opened-call o′ eo =
         (sym z ∙ refusal-is ∙ ap (openRefusal v k n a c) (sym both), eo ∙ ap (λ (b : Bool). openOutput v k n a c b o) (sym both))

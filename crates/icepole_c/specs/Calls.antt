@@ -12,9 +12,9 @@ use Rattle.icepole.specs.Sealing.{secretOf}
 use Rattle.icepole.specs.Answers.{openRefusal, openLength, openOutput, fitsOutput, unless}
 
 module _ (v : Variant) (key nonce ad c out info : Bytes) where
-  -- refusal 5 holds for both slices
+  -- whether info and out are both long enough; else 5
   abbrev pub fitsBoth : Bool
-  fitsBoth = leb (8 + sizes v .secret) (length info) && fitsOutput v key nonce ad c out
+  fitsBoth = leb (8 + sizes v .secret) (length info) && fitsOutput v c out
 
   abbrev pub callRefusal : ℕ
   callRefusal = openRefusal v key nonce ad c fitsBoth
@@ -23,4 +23,4 @@ module _ (v : Variant) (key nonce ad c out info : Bytes) where
   callOutput = openOutput v key nonce ad c fitsBoth out
 
   unfoldable pub callInfo : Bytes
-  callInfo = unless callRefusal info (putBytes info 0 (le 8 (openLength v key nonce ad c) ++ secretOf (sizes v) key nonce c))
+  callInfo = unless callRefusal info (putBytes info 0 (le 8 (openLength v c) ++ secretOf (sizes v) key nonce c))

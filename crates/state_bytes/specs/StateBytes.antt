@@ -1,4 +1,4 @@
--- The state of ICEPOLE as its 160 bytes (003, 2.3): bit z of word number w = x + 4y is state bit 64w + z, and byte j covers bits 8j to 8j + 7, low bit first.
+-- The state of ICEPOLE as its 160 bytes (003, 2.3; 01, "The permutation"): bit z of word number w = x + 4y is state bit 64w + z, and byte j covers bits 8j to 8j + 7, low bit first.
 -- Assumes nothing.
 use mathlib.Core.List.{List, [], _∷_, _++_}
 use Prim.Native.Nat.{ℕ, zero, suc, _+_, _*_, _/_, _%_}

@@ -40,7 +40,7 @@ number-here : (p : tie.After-open-number-of)
     → p .open-number-of .result
     ≡ openNumber (p .before .before .sizes-of .result) (length (p .before .before .before .before .before .before .before .before .before .args .key .now)) (length (p .before .before .before .before .before .before .before .before .before .args .nonce .now))
     (length (p .before .before .before .before .before .before .before .before .before .args .first .now) + length (p .before .before .before .before .before .before .before .before .before .args .second .now)) (length (p .before .before .before .before .before .before .before .before .before .args .sealed .now))
-    (fitsOutput (p .before .before .before .before .before .before .before .before .before .args .v) (p .before .before .before .before .before .before .before .before .before .args .key .now) (p .before .before .before .before .before .before .before .before .before .args .nonce .now) (p .before .before .before .before .before .before .before .before .before .args .first .now ++ p .before .before .before .before .before .before .before .before .before .args .second .now) (p .before .before .before .before .before .before .before .before .before .args .sealed .now) (p .before .before .before .before .before .before .before .before .before .args .out .now)) true
+    (fitsOutput (p .before .before .before .before .before .before .before .before .before .args .v) (p .before .before .before .before .before .before .before .before .before .args .sealed .now) (p .before .before .before .before .before .before .before .before .before .args .out .now)) true
 number-here p =
     let a = p .before .before .before .before .before .before .before .before .before .args in
     p .open-number-of .ensures
@@ -58,7 +58,7 @@ returns : tie.Need-returns
 returns c =
     let p = c .before .before in
     let a = p .before .before .before .before .before .before .before .before .before .args in
-    let z = open-refused (a .v) _ (p .before .before .sizes-of .ensures) (a .key .now) (a .nonce .now) (a .first .now) (a .second .now) (a .sealed .now) (fitsOutput (a .v) (a .key .now) (a .nonce .now) (a .first .now ++ a .second .now) (a .sealed .now) (a .out .now)) _ (number-here p) (c .before .if1 .taken) _ (c .refused .ensures) in
+    let z = open-refused (a .v) _ (p .before .before .sizes-of .ensures) (a .key .now) (a .nonce .now) (a .first .now) (a .second .now) (a .sealed .now) (fitsOutput (a .v) (a .sealed .now) (a .out .now)) _ (number-here p) (c .before .if1 .taken) _ (c .refused .ensures) in
     (z .0, z .1 _)
 
 open-ready-requires : tie.Need-open-ready-requires
@@ -88,7 +88,7 @@ decrypt-message-requires c κs =
     let a = p .before .before .before .before .before .before .before .before .before .args in
     let w = open-fits _ _ _ _ _ _ _ (sym (number-here p) ∙ c .before .before .before .before .before .before .before .if1 .left) in
     let h = bounds (p .before .before) in
-    let r = leb-true (openLength (a .v) (a .key .now) (a .nonce .now) (a .first .now ++ a .second .now) (a .sealed .now)) (length (a .out .now)) (w .room) in
+    let r = leb-true (openLength (a .v) (a .sealed .now)) (length (a .out .now)) (w .room) in
     let e = p .before .before .sizes-of .ensures in
     let s = ap (λ (q : Sizes). q .secret) e in
     (omega (arith, h .some, h .whole), omega (arith, h .block), omega (arith, w .sealed), omega (arith, r, s))
@@ -101,7 +101,7 @@ returns-2 c =
     let h = bounds (p .before .before) in
     let w = open-fits _ _ _ _ _ _ _ (sym (number-here p) ∙ c .before .before .before .before .before .before .before .before .before .before .if1 .left) in
     let o = c .before .before .before .before .before .before .before .before .open-ready in
-    let z = open-done (a .v) _ e (a .key .now) (a .nonce .now) (a .first .now) (a .second .now) (a .sealed .now) (fitsOutput (a .v) (a .key .now) (a .nonce .now) (a .first .now ++ a .second .now) (a .sealed .now) (a .out .now)) _ (number-here p) (c .before .before .before .before .before .before .before .before .before .before .if1 .left) (sym (tag-here (c .before .before .before .before .before .before)) ∙ c .before .before .before .before .before .if2 .taken) _ refl _ (o .ensures .1) in (
+    let z = open-done (a .v) _ e (a .key .now) (a .nonce .now) (a .first .now) (a .second .now) (a .sealed .now) (fitsOutput (a .v) (a .sealed .now) (a .out .now)) _ (number-here p) (c .before .before .before .before .before .before .before .before .before .before .if1 .left) (sym (tag-here (c .before .before .before .before .before .before)) ∙ c .before .before .before .before .before .if2 .taken) _ refl _ (o .ensures .1) in (
       z .0,
       z .1 _ _
           (decrypt-by _ _ _ _ _ _ _ (whole _ h) (c .before .before .decrypt-message .ensures)
@@ -112,7 +112,7 @@ returns-3 : tie.Need-returns-3
 returns-3 c =
     let p = c .before .before .before .before .before .before .before in
     let a = p .before .before .before .before .before .before .before .before .before .args in
-    let z = open-differs (a .v) _ (p .before .before .sizes-of .ensures) (a .key .now) (a .nonce .now) (a .first .now) (a .second .now) (a .sealed .now) (fitsOutput (a .v) (a .key .now) (a .nonce .now) (a .first .now ++ a .second .now) (a .sealed .now) (a .out .now)) _ (number-here p) (c .before .before .before .before .before .before .if1 .left)
+    let z = open-differs (a .v) _ (p .before .before .sizes-of .ensures) (a .key .now) (a .nonce .now) (a .first .now) (a .second .now) (a .sealed .now) (fitsOutput (a .v) (a .sealed .now) (a .out .now)) _ (number-here p) (c .before .before .before .before .before .before .if1 .left)
     (sym (tag-here (c .before .before)) ∙ c .before .if2 .left) _ (c .refused2 .ensures) in
     (z .0, z .1 _)
 
