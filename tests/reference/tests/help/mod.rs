@@ -1,0 +1,116 @@
+//! What the tests of the burst file have in common. None uses all of it.
+#![allow(dead_code)]
+
+use reference::burst::plain::{run, Call, PlainBurst};
+use reference::burst::reader::{check, fetch, record, RecordPart};
+use reference::burst::{Answer, Recorder, Refusal};
+
+pub const KEY: [u8; 16] = *b"sixteen key byte";
+pub const SITE_MARK: [u8; 16] = *b"hollow oak, east";
+
+/// A buffer length that no list here reaches.
+pub const ROOM: usize = 1 << 40;
+
+pub fn begin(burst_number: u64) -> Call {
+    Call::Begin {
+        key: KEY.to_vec(),
+        burst_number,
+        site_mark: SITE_MARK.to_vec(),
+    }
+}
+
+/// Bytes that differ from one another and from one `seed` to another.
+pub fn bytes(seed: usize, length: usize) -> Vec<u8> {
+    (0..length).map(|i| (seed * 31 + i * 7) as u8).collect()
+}
+
+pub fn keep(seed: usize, length: usize) -> Call {
+    Call::Keep {
+        stamp: bytes(seed + 100, 16),
+        picture: bytes(seed, length),
+    }
+}
+
+/// Begin, then a keep for each length but a drop for 0, then close.
+pub fn list_of(burst_number: u64, lengths: &[usize]) -> Vec<Call> {
+    let shot = |(seed, length): (usize, &usize)| match *length {
+        0 => Call::Drop,
+        length => keep(seed, length),
+    };
+    let mut calls = vec![begin(burst_number)];
+    calls.extend(lengths.iter().enumerate().map(shot));
+    calls.push(Call::Close);
+    calls
+}
+
+/// The file of `list_of`, by the plain burst.
+pub fn file_of(burst_number: u64, lengths: &[usize]) -> Vec<u8> {
+    run(&list_of(burst_number, lengths), ROOM).file.unwrap()
+}
+
+/// One call on a real recorder and buffer.
+pub fn record_call(recorder: &mut Recorder, call: &Call, buffer: &mut [u8]) -> Answer {
+    match call {
+        Call::Begin {
+            key,
+            burst_number,
+            site_mark,
+        } => {
+            let (begun, answer) = Recorder::begin(key, *burst_number, site_mark, buffer);
+            *recorder = begun;
+            answer
+        }
+        Call::Keep { stamp, picture } => recorder.keep(stamp, picture, buffer),
+        Call::Drop => recorder.drop_shot(),
+        Call::Close => recorder.close(buffer),
+    }
+}
+
+/// Number and mark of check; 0 and 0 when it accepts.
+pub fn check_number(key: &[u8], file: &[u8]) -> (u32, u32) {
+    let refused = |refusal: Refusal| (refusal.number, refusal.mark);
+    check(key, file).map_or_else(refused, |_| (0, 0))
+}
+
+/// Check, and fetch and record at every place, give the list back: the
+/// numbered pictures, and gaps for the shot numbers that no fetch returns.
+pub fn assert_gives_back(burst: &PlainBurst, file: &[u8]) {
+    let checked = check(&burst.key, file).unwrap();
+    assert_eq!(checked.burst_number, burst.burst_number);
+    assert_eq!(checked.site_mark, burst.site_mark);
+    assert_eq!(checked.taken, burst.taken() as u64);
+    assert_eq!(checked.kept, burst.kept() as u64);
+    assert_eq!(checked.dropped, burst.dropped() as u64);
+
+    let mut shots = vec![None; checked.taken as usize];
+    for place in 0..checked.kept {
+        let fetched = fetch(&burst.key, file, place, 1_048_576).unwrap();
+        assert_eq!(fetched.length, fetched.picture.len() as u64);
+        let shot = &mut shots[fetched.shot as usize - 1];
+        assert_eq!(*shot, None, "shot {} twice", fetched.shot);
+        *shot = Some((fetched.stamp, fetched.picture));
+    }
+    assert_eq!(shots, burst.shots);
+    assert_refused_places(&burst.key, file, checked.kept, (13, 0));
+}
+
+/// Fetch and record refuse some places from `first` on with a number and mark.
+pub fn assert_refused_places(key: &[u8], file: &[u8], first: u64, expected: (u32, u32)) {
+    let (number, mark) = expected;
+    let refused = RecordPart {
+        number,
+        mark,
+        offset: 0,
+        length: 0,
+    };
+    for place in [first, first + 1, 60, 65_536, 1 << 32, u64::MAX] {
+        let fetched = fetch(key, file, place, ROOM);
+        assert_eq!(fetched, Err(Refusal { number, mark }), "place {place}");
+        assert_eq!(record(key, file, place), refused, "place {place}");
+    }
+}
+
+/// An unlucky buffer: no byte of it is zero.
+pub fn buffer_of(length: usize) -> Vec<u8> {
+    (0..length).map(|i| (i % 251) as u8 + 1).collect()
+}
