@@ -29,7 +29,7 @@ static double timed(uint64_t (*f)(uint64_t, uint64_t), uint64_t seed, uint64_t *
 
 int main(int argc, char **argv)
 {
-    static double proved[RUNS], plain[RUNS];
+    static double proved[RUNS], plain[RUNS], ratio[RUNS];
     uint64_t sum = 0;
     if (argc == 3) {
         uint64_t times = strtoull(argv[2], NULL, 10);
@@ -39,6 +39,7 @@ int main(int argc, char **argv)
     for (int i = 0; i < RUNS; i++) {
         proved[i] = timed(bench_p6, i, &sum);
         plain[i] = timed(plain_p6, i, &sum);
+        ratio[i] = proved[i] / plain[i];
     }
     if (sum != 0) {
         printf("the two disagree\n");
@@ -46,9 +47,10 @@ int main(int argc, char **argv)
     }
     qsort(proved, RUNS, sizeof *proved, ascending);
     qsort(plain, RUNS, sizeof *plain, ascending);
+    qsort(ratio, RUNS, sizeof *ratio, ascending);
     printf("P6, cycles of the time stamp counter, over %d runs of %d\n", RUNS, TIMES);
     printf("  proved    median %.1f  least %.1f\n", proved[RUNS / 2], proved[0]);
     printf("  plain C   median %.1f  least %.1f\n", plain[RUNS / 2], plain[0]);
-    printf("  proved / plain C   median %.3f  least %.3f   (wanted: at most 1.10)\n", proved[RUNS / 2] / plain[RUNS / 2], proved[0] / plain[0]);
+    printf("  proved / plain C   median %.3f   (wanted: at most 1.10)\n", ratio[RUNS / 2]);
     return 0;
 }

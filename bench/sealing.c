@@ -76,27 +76,35 @@ static int prepare(size_t n)
     return same;
 }
 
+static double median(double *t, int n)
+{
+    qsort(t, (size_t)n, sizeof *t, ascending);
+    return t[n / 2];
+}
+
+/* The calls of a row follow one another, and each ratio is of one such turn, so that a change of the clock moves both sides alike. */
 static void measure(size_t n, int runs, int times)
 {
-    static double t[5][3][RUNS];
-    double median[5][3];
+    static double cycles[5][RUNS], plain[5][RUNS], shaped[5][RUNS], to_seal[RUNS];
     for (int i = 0; i < runs; i++)
-        for (int r = 0; r < 5; r++)
+        for (int r = 0; r < 5; r++) {
+            double t[3];
             for (int k = 0; k < 3; k++) {
                 uint64_t from = __rdtsc();
                 for (int j = 0; j < times; j++)
                     rows[r].call[k](n);
-                t[r][k][i] = (double)(__rdtsc() - from) / times;
+                t[k] = (double)(__rdtsc() - from) / times;
             }
-    for (int r = 0; r < 5; r++)
-        for (int k = 0; k < 3; k++) {
-            qsort(t[r][k], (size_t)runs, sizeof(double), ascending);
-            median[r][k] = t[r][k][runs / 2];
+            cycles[r][i] = t[0];
+            plain[r][i] = t[0] / t[1];
+            shaped[r][i] = t[0] / t[2];
         }
-    printf("%zu bytes, median of %d runs: cycles a call; proved / plain C, proved / shaped C\n", n, runs);
+    for (int i = 0; i < runs; i++)
+        to_seal[i] = cycles[2][i] / cycles[0][i];
+    printf("%zu bytes, medians of %d runs: cycles a call; proved / plain C, proved / shaped C\n", n, runs);
     for (int r = 0; r < 5; r++)
-        printf("  %-11s %12.0f   %.3f  %.3f\n", rows[r].name, median[r][0], median[r][0] / median[r][1], median[r][0] / median[r][2]);
-    printf("  proved verify / proved seal  %.3f\n", median[2][0] / median[0][0]);
+        printf("  %-11s %12.0f   %.3f  %.3f\n", rows[r].name, median(cycles[r], runs), median(plain[r], runs), median(shaped[r], runs));
+    printf("  proved verify / proved seal  %.3f\n", median(to_seal, runs));
 }
 
 int main(int argc, char **argv)
@@ -124,6 +132,6 @@ int main(int argc, char **argv)
     prepare(16384);
     measure(16384, 401, 1);
     prepare(MOST);
-    measure(MOST, 21, 1);
+    measure(MOST, 61, 1);
     return 0;
 }
