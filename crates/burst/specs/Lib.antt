@@ -1,3 +1,5 @@
 pub mod Layout
 pub mod Numbers
 pub mod Plain
+pub mod Index
+pub mod Recorder

@@ -1,1 +1,494 @@
-// The burst file. So far its definitions stand here (specs/), without code.
+// The recorder of bursts (01, "Recorder").
+use icepole::KEY_LENGTH;
+use icepole::SECRET_LENGTH;
+use icepole::Variant;
+ghost use mathlib.Core.Path.{_≡_};
+ghost use mathlib.Core.List.{_++_};
+ghost use Prim.Native.Nat.{_+_, _*_, _≤_, _<_, _^_};
+ghost use lib.ListN.{length, take};
+ghost use Rattle.bytes_le.specs.Bytes.{putBytes};
+ghost use Rattle.burst.specs.Layout.{edition1, nonceOf, recordBytes, closingSeal};
+ghost use Rattle.burst.specs.Numbers.{beginNumber, keepNumber, dropNumber, closeNumber};
+ghost use Rattle.burst.specs.Index.{entryOf, entryRules, bytesOfEntry};
+ghost use Rattle.burst.specs.Recorder.{isSound, newRecorder, beginAnswer, beginBuffer, dropAnswer, afterKeep, keepAnswer, keepBuffer, recorderHeader, recorderIndex, closeAnswer, closeBuffer};
+
+// Counts firings from 1.
+pub struct Shot(pub u16);
+
+// Counts kept pictures from 0.
+pub struct Place(pub u16);
+
+// The refusal numbers of recorder and reader (01, "Turned down, by example"), after those of `icepole`.
+pub const NOT_SOUND: u32 = 8;
+
+pub const BURST_FULL: u32 = 9;
+
+pub const PICTURE_LENGTH: u32 = 10;
+
+pub const BUFFER_TOO_SHORT: u32 = 11;
+
+pub const FRONT_BROKEN: u32 = 12;
+
+pub const NO_SUCH_PLACE: u32 = 13;
+
+// The facts of edition 1.
+pub const EDITION: u16 = 1;
+
+pub const HEADER_LENGTH: u32 = 32;
+
+pub const MAX_SHOTS: u16 = 60;
+
+const MAX_PICTURE: u32 = 1048576;
+
+const ENTRY_LENGTH: usize = 12;
+
+// Bytes by which sealing lengthens, and bytes of a closing seal.
+const SEAL_LENGTH: u32 = 32;
+
+// An index entry: the record's offset in the file and the picture's length. `zeros` is the entry's field that is always zero.
+pub struct Entry {
+    pub shot: Shot,
+    pub zeros: u16,
+    pub offset: u32,
+    pub length: u32,
+}
+
+pub struct Recorder {
+    pub key: [u8; 16],
+    pub burst_number: u64,
+    pub site_mark: [u8; 16],
+    // the latest shot, 0 before the first
+    pub taken: Shot,
+    // the next picture's place
+    pub kept: Place,
+    // bytes of header and records
+    pub used: u32,
+    pub entries: [Entry; 60],
+    pub closed: bool,
+}
+
+// What the calls answer: a refusal number, 0 when done, its mark, and the rest, which is zero with a refusal. The recorder is then the one the call was given.
+pub struct Begun {
+    pub refusal: u32,
+    pub mark: u32,
+    pub recorder: Recorder,
+}
+
+pub struct ShotAnswer {
+    pub refusal: u32,
+    pub mark: u32,
+    pub shot: Shot,
+    pub recorder: Recorder,
+}
+
+pub struct Closed {
+    pub refusal: u32,
+    pub mark: u32,
+    pub total: u32,
+    pub recorder: Recorder,
+}
+
+// Whether an entry obeys the index rules, after one of shot number `last`, and with its record at `offset`.
+pub fn entry_ok(last: Shot, offset: u32, taken: Shot, e: Entry) -> bool
+    ensures { λ b. ⌜ b ≡ entryRules (last .0) offset (taken .0) e ⌝ }
+{
+    let shot = e.shot;
+    if shot.0 <= last.0 {
+        return false;
+    }
+    if shot.0 > taken.0 {
+        return false;
+    }
+    if e.zeros != 0 {
+        return false;
+    }
+    if e.offset != offset {
+        return false;
+    }
+    if e.length < 1 {
+        return false;
+    }
+    e.length <= MAX_PICTURE
+}
+
+fn sound(r: Recorder) -> bool
+    ensures { λ b. ⌜ b ≡ isSound r ⌝ }
+{
+    if r.closed {
+        return false;
+    }
+    if r.taken.0 > MAX_SHOTS {
+        return false;
+    }
+    if r.kept.0 > r.taken.0 {
+        return false;
+    }
+    let n = r.kept.0 as usize;
+    let mut i: usize = 0;
+    let mut last: u16 = 0;
+    let mut offset = HEADER_LENGTH;
+    while i < n {
+        let e = r.entries[i];
+        if !entry_ok(Shot(last), offset, r.taken, e) {
+            return false;
+        }
+        offset = offset + e.length + SEAL_LENGTH;
+        last = e.shot.0;
+        i += 1;
+    }
+    offset == r.used
+}
+
+// The 16 bytes of s.
+fn sixteen(s: &[u8]) -> [u8; 16]
+    requires { ⌜ length (now s) ≡ 16 ⌝ }
+    ensures { λ r. ⌜ r ≡ now (s .entry) ⌝ }
+{
+    let mut a = [0u8; 16];
+    bytes_le::put_bytes(&mut a, 0, s);
+    a
+}
+
+fn new_recorder(
+    key: [u8; 16],
+    burst_number: u64,
+    site_mark: [u8; 16],
+    used: u32,
+    closed: bool,
+) -> Recorder
+    ensures { λ r. ⌜ r ≡ newRecorder key (record { burstNumber = «burst_number»; siteMark = «site_mark» }) used closed ⌝ }
+{
+    let e = Entry {
+        shot: Shot(0),
+        zeros: 0,
+        offset: 0,
+        length: 0,
+    };
+    Recorder {
+        key,
+        burst_number,
+        site_mark,
+        taken: Shot(0),
+        kept: Place(0),
+        used,
+        entries: [e; 60],
+        closed,
+    }
+}
+
+// The number of begin, from the lengths of what is lent.
+fn begin_number(key: usize, site_mark: usize, buffer: usize) -> u32
+    ensures { λ n. ⌜ n ≡ beginNumber edition1 key «site_mark» buffer ⌝ }
+{
+    if key != 16 {
+        return KEY_LENGTH;
+    }
+    if site_mark != 16 {
+        return SECRET_LENGTH;
+    }
+    if buffer < 64 {
+        return BUFFER_TOO_SHORT;
+    }
+    0
+}
+
+pub fn begin(key: &[u8], burst_number: u64, site_mark: &[u8], buffer: &mut [u8]) -> Begun
+    ensures { λ r. ⌜
+        (r ≡ beginAnswer (now (key .entry)) (record { burstNumber = «burst_number»; siteMark = now («site_mark» .entry) }) (now (buffer .entry))) ×
+        (now (buffer .exit) ≡ beginBuffer (now (key .entry)) (record { burstNumber = «burst_number»; siteMark = now («site_mark» .entry) }) (now (buffer .entry))) ⌝ }
+{
+    let number = begin_number(key.len(), site_mark.len(), buffer.len());
+    if number != 0 {
+        return Begun {
+            refusal: number,
+            mark: 0,
+            recorder: new_recorder([0u8; 16], 0, [0u8; 16], 0, true),
+        };
+    }
+    let zeros = [0u8; 32];
+    bytes_le::put_bytes(buffer, 0, &zeros);
+    let k = sixteen(key);
+    let m = sixteen(site_mark);
+    Begun {
+        refusal: 0,
+        mark: 0,
+        recorder: new_recorder(k, burst_number, m, HEADER_LENGTH, false),
+    }
+}
+
+// The answer of a keep or drop that is turned down.
+fn not_shot(refusal: u32, r: Recorder) -> ShotAnswer
+    ensures { λ k. ⌜ k ≡ record { refusal = refusal; mark = 0; shot = record { 0 = 0 }; recorder = r } ⌝ }
+{
+    ShotAnswer {
+        refusal,
+        mark: 0,
+        shot: Shot(0),
+        recorder: r,
+    }
+}
+
+fn drop_number(r: Recorder) -> u32
+    ensures { λ n. ⌜ n ≡ dropNumber edition1 (isSound r) (r .taken .0) ⌝ }
+{
+    if !sound(r) {
+        return NOT_SOUND;
+    }
+    if r.taken.0 >= MAX_SHOTS {
+        return BURST_FULL;
+    }
+    0
+}
+
+pub fn drop_shot(r: Recorder) -> ShotAnswer
+    ensures { λ k. ⌜ k ≡ dropAnswer r ⌝ }
+{
+    let number = drop_number(r);
+    if number != 0 {
+        return not_shot(number, r);
+    }
+    let shot = Shot(r.taken.0 + 1);
+    let mut next = r;
+    next.taken = shot;
+    ShotAnswer {
+        refusal: 0,
+        mark: 0,
+        shot,
+        recorder: next,
+    }
+}
+
+// The nonce of a shot; shot number 0 is the closing seal's.
+pub fn nonce_of(burst_number: u64, shot: Shot) -> [u8; 16]
+    ensures { λ r. ⌜ r ≡ nonceOf «burst_number» (shot .0) ⌝ }
+{
+    let mut a = [0u8; 16];
+    let i = bytes_le::store_le(&mut a, 0, 8, burst_number);
+    bytes_le::store_le(&mut a, i, 2, shot.0 as u64);
+    a
+}
+
+// Puts an entry's twelve bytes into out from index at on; returns the index behind them.
+fn put_entry(out: &mut [u8], at: usize, e: Entry) -> usize
+    requires { ⌜ at + 12 ≤ length (now out) ⌝ }
+    ensures { λ r. ⌜ (r ≡ at + 12) × (now (out .exit) ≡ putBytes (now (out .entry)) at (bytesOfEntry e)) ⌝ }
+{
+    let s = e.shot;
+    let i = bytes_le::store_le(out, at, 2, s.0 as u64);
+    let j = bytes_le::store_le(out, i, 2, e.zeros as u64);
+    let k = bytes_le::store_le(out, j, 4, e.offset as u64);
+    bytes_le::store_le(out, k, 4, e.length as u64)
+}
+
+fn entry_bytes(e: Entry) -> [u8; 12]
+    ensures { λ r. ⌜ r ≡ bytesOfEntry e ⌝ }
+{
+    let mut a = [0u8; 12];
+    put_entry(&mut a, 0, e);
+    a
+}
+
+// The number of keep, from the lengths of what is lent.
+fn keep_number(r: Recorder, stamp: usize, picture: usize, buffer: usize) -> u32
+    ensures { λ n. ⌜ n ≡ keepNumber edition1 (isSound r) (r .taken .0) (r .kept .0) (r .used) stamp picture buffer ⌝ }
+{
+    if !sound(r) {
+        return NOT_SOUND;
+    }
+    if stamp != 16 {
+        return SECRET_LENGTH;
+    }
+    if r.taken.0 >= MAX_SHOTS {
+        return BURST_FULL;
+    }
+    if picture < 1 {
+        return PICTURE_LENGTH;
+    }
+    if picture > MAX_PICTURE as usize {
+        return PICTURE_LENGTH;
+    }
+    let used = r.used as usize + picture + 32;
+    let need = used + ENTRY_LENGTH * (r.kept.0 as usize + 1) + 32;
+    if buffer < need {
+        return BUFFER_TOO_SHORT;
+    }
+    0
+}
+
+// The entry of a recorder's next picture.
+fn next_entry(r: Recorder, length: u32) -> Entry
+    requires { ⌜ r .taken .0 < 60 ⌝ }
+    ensures { λ e. ⌜ e ≡ entryOf (r .taken .0 + 1) (r .used) length ⌝ }
+{
+    Entry {
+        shot: Shot(r.taken.0 + 1),
+        zeros: 0,
+        offset: r.used,
+        length,
+    }
+}
+
+// Seals a recorder's next picture into the buffer, behind the records before it.
+fn put_record(r: Recorder, stamp: &[u8], picture: &[u8], buffer: &mut [u8])
+    requires { ⌜ (r .taken .0 < 60) × (length (now stamp) ≡ 16) × (length (now picture) ≤ 1048576) × (r .used + length (now picture) + 32 ≤ length (now buffer)) ⌝ }
+    ensures { λ _. ⌜ now (buffer .exit) ≡ putBytes (now (buffer .entry)) (r .used) (recordBytes (r .key) (r .«burst_number») (r .taken .0 + 1) (r .used) (now (stamp .entry)) (now (picture .entry))) ⌝ }
+{
+    let e = next_entry(r, picture.len() as u32);
+    let nonce = nonce_of(r.burst_number, e.shot);
+    let associated = entry_bytes(e);
+    let none: [u8; 0] = [];
+    let key = r.key;
+    let at = r.used as usize;
+    icepole::seal(
+        Variant::Icepole128,
+        &key,
+        &nonce,
+        stamp,
+        &associated,
+        &none,
+        picture,
+        &mut buffer[at..],
+    );
+}
+
+// The recorder after a picture of so many bytes.
+fn with_picture(r: Recorder, length: u32) -> Recorder
+    requires { ⌜ (r .taken .0 < 60) × (r .kept .0 < 60) × (r .used + length + 32 < 2 ^ 32) ⌝ }
+    ensures { λ n. ⌜ n ≡ afterKeep r length ⌝ }
+{
+    let e = next_entry(r, length);
+    let place = r.kept.0 as usize;
+    let kept = Place(r.kept.0 + 1);
+    let used = r.used + length + SEAL_LENGTH;
+    let shot = e.shot;
+    let mut next = r;
+    next.taken = shot;
+    next.kept = kept;
+    next.used = used;
+    next.entries[place] = e;
+    next
+}
+
+pub fn keep(r: Recorder, stamp: &[u8], picture: &[u8], buffer: &mut [u8]) -> ShotAnswer
+    ensures { λ k. ⌜
+        (k ≡ keepAnswer r (now (stamp .entry)) (now (picture .entry)) (now (buffer .entry))) ×
+        (now (buffer .exit) ≡ keepBuffer r (now (stamp .entry)) (now (picture .entry)) (now (buffer .entry))) ⌝ }
+{
+    let number = keep_number(r, stamp.len(), picture.len(), buffer.len());
+    if number != 0 {
+        return not_shot(number, r);
+    }
+    put_record(r, stamp, picture, buffer);
+    let next = with_picture(r, picture.len() as u32);
+    let shot = next.taken;
+    ShotAnswer {
+        refusal: 0,
+        mark: 0,
+        shot,
+        recorder: next,
+    }
+}
+
+// The header of a recorder's file.
+fn header_of(r: Recorder) -> [u8; 32]
+    requires { ⌜ (r .kept .0 ≤ r .taken .0) × (r .used + 12 * r .kept .0 + 32 < 2 ^ 32) ⌝ }
+    ensures { λ h. ⌜ h ≡ recorderHeader r ⌝ }
+{
+    let taken = r.taken.0;
+    let kept = r.kept.0;
+    let index = r.used as u64;
+    let closing = index + 12 * (kept as u64);
+    let mut h = [0u8; 32];
+    bytes_le::store_le(&mut h, 0, 2, EDITION as u64);
+    bytes_le::store_le(&mut h, 2, 2, taken as u64);
+    bytes_le::store_le(&mut h, 4, 2, kept as u64);
+    bytes_le::store_le(&mut h, 6, 2, (taken - kept) as u64);
+    bytes_le::store_le(&mut h, 8, 8, r.burst_number);
+    bytes_le::store_le(&mut h, 16, 4, HEADER_LENGTH as u64);
+    bytes_le::store_le(&mut h, 20, 4, index);
+    bytes_le::store_le(&mut h, 24, 4, closing);
+    bytes_le::store_le(&mut h, 28, 4, closing + 32);
+    h
+}
+
+// The index of a recorder's file, at the front of what is returned.
+fn index_of(r: Recorder) -> [u8; 720]
+    requires { ⌜ r .kept .0 ≤ 60 ⌝ }
+    ensures { λ x. ⌜ (length x ≡ 720) × (take (12 * r .kept .0) x ≡ recorderIndex r) ⌝ }
+{
+    let n = r.kept.0 as usize;
+    let mut x = [0u8; 720];
+    let mut i: usize = 0;
+    let mut at: usize = 0;
+    while i < n {
+        let e = r.entries[i];
+        at = put_entry(&mut x, at, e);
+        i += 1;
+    }
+    x
+}
+
+// Writes header, index and closing seal of a recorder's file, from the header's and the index's bytes.
+fn put_end(r: Recorder, header: &[u8], index: &[u8], buffer: &mut [u8])
+    requires { ⌜ (length (now header) ≡ 32) × (length (now index) ≤ 720) × (32 ≤ r .used) × (r .used + length (now index) + 32 ≤ length (now buffer)) ⌝ }
+    ensures { λ _. ⌜ now (buffer .exit) ≡ putBytes (putBytes (now (buffer .entry)) 0 (now (header .entry))) (r .used)
+        (now (index .entry) ++ closingSeal (r .key) (record { burstNumber = r .«burst_number»; siteMark = r .«site_mark» }) (now (header .entry)) (now (index .entry))) ⌝ }
+{
+    let at = r.used as usize;
+    bytes_le::put_bytes(buffer, 0, header);
+    let end = bytes_le::put_bytes(buffer, at, index);
+    let nonce = nonce_of(r.burst_number, Shot(0));
+    let none: [u8; 0] = [];
+    let key = r.key;
+    let site_mark = r.site_mark;
+    icepole::seal(
+        Variant::Icepole128,
+        &key,
+        &nonce,
+        &site_mark,
+        header,
+        index,
+        &none,
+        &mut buffer[end..],
+    );
+}
+
+fn close_number(r: Recorder, buffer: usize) -> u32
+    ensures { λ n. ⌜ n ≡ closeNumber (isSound r) (r .kept .0) (r .used) buffer ⌝ }
+{
+    if !sound(r) {
+        return NOT_SOUND;
+    }
+    let end = r.used as usize + ENTRY_LENGTH * (r.kept.0 as usize);
+    if buffer < end + 32 {
+        return BUFFER_TOO_SHORT;
+    }
+    0
+}
+
+pub fn close(r: Recorder, buffer: &mut [u8]) -> Closed
+    ensures { λ k. ⌜ (k ≡ closeAnswer r (now (buffer .entry))) × (now (buffer .exit) ≡ closeBuffer r (now (buffer .entry))) ⌝ }
+{
+    let number = close_number(r, buffer.len());
+    if number != 0 {
+        return Closed {
+            refusal: number,
+            mark: 0,
+            total: 0,
+            recorder: r,
+        };
+    }
+    let header = header_of(r);
+    let index = index_of(r);
+    let n = ENTRY_LENGTH * (r.kept.0 as usize);
+    put_end(r, &header, &index[..n], buffer);
+    let total = r.used + 12 * (r.kept.0 as u32) + 32;
+    let mut next = r;
+    next.closed = true;
+    Closed {
+        refusal: 0,
+        mark: 0,
+        total,
+        recorder: next,
+    }
+}

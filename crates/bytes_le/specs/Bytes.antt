@@ -26,3 +26,7 @@ le (suc n) x = x % 256 ∷ le n (x / 256)
 abbrev pub unle : Bytes → ℕ
 unle [] = 0
 unle (b ∷ bs) = b + 256 * unle bs
+
+-- the number of n bytes that stands in b from index i on
+unfoldable pub leAt : ℕ → Bytes → ℕ → ℕ
+leAt n b i = unle (take n (drop i b))

@@ -1,8 +1,8 @@
-// Bytes put into a lent buffer, and 64-bit numbers as little-endian bytes.
+// Bytes put into a lent buffer, and numbers as little-endian bytes.
 ghost use mathlib.Core.Path.{_≡_};
-ghost use Prim.Native.Nat.{_+_, _≤_};
+ghost use Prim.Native.Nat.{_+_, _≤_, _<_, _^_};
 ghost use lib.ListN.{length, take, drop};
-ghost use Rattle.bytes_le.specs.Bytes.{putBytes, le, unle};
+ghost use Rattle.bytes_le.specs.Bytes.{putBytes, le, unle, leAt};
 
 // Copies all of src into out from index at on; returns the index behind it.
 pub fn put_bytes(out: &mut [u8], at: usize, src: &[u8]) -> usize
@@ -17,31 +17,46 @@ pub fn put_bytes(out: &mut [u8], at: usize, src: &[u8]) -> usize
     at + j
 }
 
-// Puts the eight bytes of x into out from index at on; returns the index behind them.
-pub fn store_u64(out: &mut [u8], at: usize, x: u64) -> usize
-    requires { ⌜ at + 8 ≤ length (now out) ⌝ }
-    ensures { λ r. ⌜ (r ≡ at + 8) × (now (out .exit) ≡ putBytes (now (out .entry)) at (le 8 x)) ⌝ }
+// Puts the n low bytes of x into out from index at on; returns the index behind them.
+pub fn store_le(out: &mut [u8], at: usize, n: usize, x: u64) -> usize
+    requires { ⌜ at + n ≤ length (now out) ⌝ }
+    ensures { λ r. ⌜ (r ≡ at + n) × (now (out .exit) ≡ putBytes (now (out .entry)) at (le n x)) ⌝ }
 {
     let mut j = 0;
     let mut y = x;
-    while j < 8 {
+    while j < n {
         out[at + j] = (y % 256) as u8;
         y = y / 256;
         j += 1;
     }
-    at + 8
+    at + n
 }
 
-// The number whose eight bytes stand in b from index at on.
+// The number whose n bytes stand in b from index at on.
+pub fn load_le(b: &[u8], at: usize, n: usize) -> u64
+    requires { ⌜ (n ≤ 8) × (at + n ≤ length (now b)) ⌝ }
+    ensures { λ r. ⌜ (r ≡ leAt n (now (b .entry)) at) × (le n r ≡ take n (drop at (now (b .entry)))) × (r < 256 ^ n) ⌝ }
+{
+    let mut x: u64 = 0;
+    let mut j: usize = 0;
+    while j < n {
+        x = x * 256 + b[at + (n - 1 - j)] as u64;
+        j += 1;
+    }
+    x
+}
+
+// The same for all eight bytes of a word.
+pub fn store_u64(out: &mut [u8], at: usize, x: u64) -> usize
+    requires { ⌜ at + 8 ≤ length (now out) ⌝ }
+    ensures { λ r. ⌜ (r ≡ at + 8) × (now (out .exit) ≡ putBytes (now (out .entry)) at (le 8 x)) ⌝ }
+{
+    store_le(out, at, 8, x)
+}
+
 pub fn load_u64(b: &[u8], at: usize) -> u64
     requires { ⌜ at + 8 ≤ length (now b) ⌝ }
     ensures { λ r. ⌜ (r ≡ unle (take 8 (drop at (now (b .entry))))) × (le 8 r ≡ take 8 (drop at (now (b .entry)))) ⌝ }
 {
-    let mut x: u64 = 0;
-    let mut n: usize = 0;
-    while n < 8 {
-        x = x * 256 + b[at + (7 - n)] as u64;
-        n += 1;
-    }
-    x
+    load_le(b, at, 8)
 }

@@ -109,11 +109,11 @@ module _ (q : Sizes) (k n a c : ℕ) (fits : Bool) where
 
 -- ---- what number 0 tells
 -- a condition was passed
-passed : (b : Bool) (n x : ℕ) → pick b (suc n) x ≡ 0 → (b ≡ false) × (x ≡ 0)
+pub passed : (b : Bool) (n x : ℕ) → pick b (suc n) x ≡ 0 → (b ≡ false) × (x ≡ 0)
 passed true n x e = absurd (omega arith)
 passed false n x e = (refl, e)
 
-neither : (x y : Bool) → (x || y) ≡ false → (x ≡ false) × (y ≡ false)
+pub neither : (x y : Bool) → (x || y) ≡ false → (x ≡ false) × (y ≡ false)
 neither true y e = let z : _≡_ {A = ℕ} 0 1 = cc in absurd (omega arith)
 neither false y e = (refl, e)
 

@@ -1,0 +1,5 @@
+pub mod Rules
+pub mod Numbers
+pub mod Puts
+pub mod Answers
+pub mod Sealer

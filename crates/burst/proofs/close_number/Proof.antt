@@ -1,0 +1,32 @@
+-- `burst::close_number` meets its contract.
+-- Assumes nothing.
+use mathlib.Core.Path.{sym, _∙_}
+use native.Mathlib.Omega.{arith}
+use borrow.Author.Needs.{needs}
+use borrow.Author.Tests.{not-true, not-false}
+use Rattle.burst.proofs.Numbers.{close-8, close-11, close-0}
+use Rattle.burst.proofs.close_number.Statement.{statement}
+use Rattle.burst.proofs.close_number.Tie as tie
+
+returns : tie.Need-returns
+returns c = close-8 _ _ _ _ (sym (c .before .sound .ensures) ∙ not-true _ (c .if1 .taken))
+
+returns-2 : tie.Need-returns-2
+returns-2 c = close-11 _ _ _ _ (sym (c .before .before .before .before .sound .ensures) ∙ not-false _ (c .before .before .before .if1 .left)) (omega arith)
+
+returns-3 : tie.Need-returns-3
+returns-3 c = close-0 _ _ _ _ (sym (c .before .before .before .before .sound .ensures) ∙ not-false _ (c .before .before .before .if1 .left)) (omega arith)
+
+pub close-number-spec : {M : Type 1} → statement M
+close-number-spec =
+    tie.close
+    (tie.spec
+    (λ c κs. search needs)
+    returns
+    (λ c. search needs)
+    (λ c. search needs)
+    (λ c. search needs)
+    (λ c. search needs)
+    (λ c. search needs)
+    returns-2
+    returns-3)

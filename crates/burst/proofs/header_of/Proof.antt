@@ -1,0 +1,61 @@
+-- `burst::header_of` meets its contract: the header's nine fields, one behind the other.
+-- Assumes nothing.
+use mathlib.Core.Path.{refl}
+use native.Mathlib.Omega.{arith}
+use borrow.Author.Needs.{needs}
+use Rattle.burst.specs.Recorder.{recorderHeader}
+use Rattle.burst.proofs.Puts.{header-put}
+use Rattle.burst.proofs.header_of.Statement.{statement}
+use Rattle.burst.proofs.header_of.Tie as tie
+
+add-store-le : tie.Need-add-store-le
+add-store-le c = omega (arith, c .before .before .before .before .before .before .before .before .before .before .before .before .before .before .before .before .before .before .before .before .before .before .before .before .before .before .pre)
+
+returns : tie.Need-returns
+unfolding recorderHeader
+returns c =
+    header-put _ _ _ _ _ _ _ _ _ _ _ _ _ _ _ refl
+    (c .before .before .before .before .before .before .before .before .before .before .before .before .before .before .before .before .before .before .before .before .before .before .before .before .before .store-le .ensures .1)
+    (c .before .before .before .before .before .before .before .before .before .before .before .before .before .before .before .before .before .before .before .before .before .before .store-le2 .ensures .1)
+    (c .before .before .before .before .before .before .before .before .before .before .before .before .before .before .before .before .before .before .before .store-le3 .ensures .1)
+    (c .before .before .before .before .before .before .before .before .before .before .before .before .before .before .before .before .store-le4 .ensures .1)
+    (c .before .before .before .before .before .before .before .before .before .before .before .before .before .store-le5 .ensures .1)
+    (c .before .before .before .before .before .before .before .before .before .before .store-le6 .ensures .1)
+    (c .before .before .before .before .before .before .before .store-le7 .ensures .1)
+    (c .before .before .before .before .store-le8 .ensures .1)
+    (c .before .store-le9 .ensures .1)
+
+pub header-of-spec : {M : Type 1} → statement M
+header-of-spec =
+    tie.close
+    (tie.spec
+    (λ c. search needs)
+    (λ c. search needs)
+    (λ c. search needs)
+    (λ c. search needs)
+    (λ c. search needs)
+    (λ c. search needs)
+    (λ c κs. search needs)
+    (λ c. search needs)
+    (λ c. search needs)
+    (λ c κs. search needs)
+    (λ c. search needs)
+    (λ c. search needs)
+    (λ c κs. search needs)
+    (λ c. search needs)
+    (λ c. search needs)
+    (λ c. search needs)
+    (λ c κs. search needs)
+    (λ c. search needs)
+    (λ c κs. search needs)
+    (λ c. search needs)
+    (λ c. search needs)
+    (λ c κs. search needs)
+    (λ c. search needs)
+    (λ c κs. search needs)
+    (λ c. search needs)
+    (λ c κs. search needs)
+    (λ c. search needs)
+    add-store-le
+    (λ c κs. search needs)
+    returns)

@@ -1,0 +1,151 @@
+-- The recorder's calls (01, "Recorder"): what each answers and leaves in the buffer, for good and bad calls.
+-- Assumes nothing.
+use mathlib.Core.Bool.{Bool, true, false, not, _&&_}
+use mathlib.Core.List.{List, _++_}
+use Prim.Native.Nat.{ℕ, _+_, _-_}
+use lib.Dec.{eqb, leb}
+use lib.ListN.{length, take, set, replicate}
+use Rattle.bytes_le.specs.Bytes.{Bytes, putBytes}
+use Rattle.icepole.specs.Sealing.{pick}
+use Rattle.icepole.specs.Answers.{unless}
+use Rattle.burst.specs.declared.Recorder.{Recorder}
+use Rattle.burst.specs.declared.Begun.{Begun}
+use Rattle.burst.specs.declared.ShotAnswer.{ShotAnswer}
+use Rattle.burst.specs.declared.Closed.{Closed}
+use Rattle.burst.specs.Layout.{edition1, Identity, headerBytes, recordBytes, closingSeal}
+use Rattle.burst.specs.Numbers.{usedAfter, totalFrom, beginNumber, keepNumber, dropNumber, closeNumber}
+use Rattle.burst.specs.Index.{entryOf, indexRules, indexBytes}
+
+-- not closed, taken at most 60, kept at most taken, and the first kept entries obey the index rules and end at bytes used. Later entries are not looked at
+unfoldable pub isSound : Recorder → Bool
+isSound r =
+    not (r .closed)
+    && (leb (r .taken .0) (edition1 .maxShots)
+    && (leb (r .kept .0) (r .taken .0)
+    && indexRules 0 (edition1 .headerLength) (r .taken .0) (r .used) (take (r .kept .0) (r .entries))))
+
+-- ---- begin
+-- a recorder without shots
+unfoldable pub newRecorder : (key : Bytes) (i : Identity) (used : ℕ) (closed : Bool) → Recorder
+newRecorder key i used closed = record {
+  key = key;
+  «burst_number» = i .burstNumber;
+  «site_mark» = i .siteMark;
+  taken = record { 0 = 0 };
+  kept = record { 0 = 0 };
+  used = used;
+  entries = replicate 60 (entryOf 0 0 0);
+  closed = closed;
+}
+
+-- what a begin that is turned down returns: a closed recorder, otherwise zero
+unfoldable pub noRecorder : Recorder
+noRecorder = newRecorder (replicate 16 0) (record { burstNumber = 0; siteMark = replicate 16 0 }) 0 true
+
+module _ (key : Bytes) (i : Identity) (buffer : Bytes) where
+  unfoldable pub beginRefused : ℕ
+  beginRefused = beginNumber edition1 (length key) (length (i .siteMark)) (length buffer)
+
+  unfoldable pub beginAnswer : Begun
+  beginAnswer = record {
+    refusal = beginRefused;
+    mark = 0;
+    recorder = pick (eqb beginRefused 0) (newRecorder key i (edition1 .headerLength) false) noRecorder;
+  }
+
+  -- the header's bytes are zero until close writes it
+  unfoldable pub beginBuffer : Bytes
+  beginBuffer = unless beginRefused buffer (putBytes buffer 0 (replicate (edition1 .headerLength) 0))
+
+-- ---- keep and drop
+-- the shot number with the recorder; a refused call returns the recorder it was given
+abbrev pub shotAnswer : ℕ → Recorder → Recorder → ShotAnswer
+shotAnswer num was is = record {
+  refusal = num;
+  mark = 0;
+  shot = record { 0 = pick (eqb num 0) (was .taken .0 + 1) 0 };
+  recorder = pick (eqb num 0) is was;
+}
+
+unfoldable pub afterDrop : Recorder → Recorder
+afterDrop r = record {
+  key = r .key;
+  «burst_number» = r .«burst_number»;
+  «site_mark» = r .«site_mark»;
+  taken = record { 0 = r .taken .0 + 1 };
+  kept = r .kept;
+  used = r .used;
+  entries = r .entries;
+  closed = r .closed;
+}
+
+unfoldable pub dropRefused : Recorder → ℕ
+dropRefused r = dropNumber edition1 (isSound r) (r .taken .0)
+
+unfoldable pub dropAnswer : Recorder → ShotAnswer
+dropAnswer r = shotAnswer (dropRefused r) r (afterDrop r)
+
+-- one entry at place kept, for a picture of so many bytes
+unfoldable pub afterKeep : Recorder → ℕ → Recorder
+afterKeep r count = record {
+  key = r .key;
+  «burst_number» = r .«burst_number»;
+  «site_mark» = r .«site_mark»;
+  taken = record { 0 = r .taken .0 + 1 };
+  kept = record { 0 = r .kept .0 + 1 };
+  used = usedAfter (r .used) count;
+  entries = set (r .entries) (r .kept .0) (entryOf (r .taken .0 + 1) (r .used) count);
+  closed = r .closed;
+}
+
+module _ (r : Recorder) (stamp picture buffer : Bytes) where
+  unfoldable pub keepRefused : ℕ
+  keepRefused = keepNumber edition1 (isSound r) (r .taken .0) (r .kept .0) (r .used) (length stamp) (length picture) (length buffer)
+
+  unfoldable pub keepAnswer : ShotAnswer
+  keepAnswer = shotAnswer keepRefused r (afterKeep r (length picture))
+
+  -- one record at bytes used
+  unfoldable pub keepBuffer : Bytes
+  keepBuffer =
+      unless keepRefused buffer (putBytes buffer (r .used) (recordBytes (r .key) (r .«burst_number») (r .taken .0 + 1) (r .used) stamp picture))
+
+-- ---- close
+unfoldable pub afterClose : Recorder → Recorder
+afterClose r = record {
+  key = r .key;
+  «burst_number» = r .«burst_number»;
+  «site_mark» = r .«site_mark»;
+  taken = r .taken;
+  kept = r .kept;
+  used = r .used;
+  entries = r .entries;
+  closed = true;
+}
+
+unfoldable pub recorderHeader : Recorder → Bytes
+recorderHeader r = headerBytes edition1 (r .taken .0) (r .kept .0) (r .taken .0 - r .kept .0) (r .«burst_number») (r .used)
+
+unfoldable pub recorderIndex : Recorder → Bytes
+recorderIndex r = indexBytes (take (r .kept .0) (r .entries))
+
+unfoldable pub recorderSeal : Recorder → Bytes
+recorderSeal r =
+    closingSeal (r .key) (record { burstNumber = r .«burst_number»; siteMark = r .«site_mark» }) (recorderHeader r) (recorderIndex r)
+
+module _ (r : Recorder) (buffer : Bytes) where
+  unfoldable pub closeRefused : ℕ
+  closeRefused = closeNumber (isSound r) (r .kept .0) (r .used) (length buffer)
+
+  unfoldable pub closeAnswer : Closed
+  closeAnswer = record {
+    refusal = closeRefused;
+    mark = 0;
+    total = pick (eqb closeRefused 0) (totalFrom (r .used) (r .kept .0)) 0;
+    recorder = pick (eqb closeRefused 0) (afterClose r) r;
+  }
+
+  -- header at the front; index and closing seal behind the records
+  unfoldable pub closeBuffer : Bytes
+  closeBuffer =
+      unless closeRefused buffer (putBytes (putBytes buffer 0 (recorderHeader r)) (r .used) (recorderIndex r ++ recorderSeal r))
