@@ -88,9 +88,10 @@ pub record CallList : Type 0 where
   pub bufferLength : ℕ
   pub calls : List Call
 
--- what a call answers: its refusal number, and the shot number or the total, 0 where it was refused
+-- what a call answers: its refusal number, its mark, and the shot number or the total, 0 where it was refused
 pub record Answer : Type 0 where
   pub number : ℕ
+  pub mark : ℕ
   pub value : ℕ
 
 module _ (e : Edition) (bufferLength : ℕ) where
@@ -120,8 +121,9 @@ module _ (e : Edition) (bufferLength : ℕ) where
   unfoldable pub afterCall : Plain → Call → Plain
   afterCall p c = pick (eqb (numberOf p c) 0) (accepted p c) p
 
+  -- the mark is 0: no call of these is refused with 7
   unfoldable pub answerOf : Plain → Call → Answer
-  answerOf p c = record { number = numberOf p c; value = pick (eqb (numberOf p c) 0) (valueOf p c) 0 }
+  answerOf p c = record { number = numberOf p c; mark = 0; value = pick (eqb (numberOf p c) 0) (valueOf p c) 0 }
 
   abbrev pub afterCalls : Plain → List Call → Plain
   afterCalls p [] = p
@@ -145,4 +147,4 @@ module _ (e : Edition) (l : CallList) where
 
   -- the answers of all its calls, begin's first
   unfoldable pub plainAnswers : List Answer
-  plainAnswers = record { number = beginRefusal; value = 0 } ∷ answersOf e (l .bufferLength) begun (l .calls)
+  plainAnswers = record { number = beginRefusal; mark = 0; value = 0 } ∷ answersOf e (l .bufferLength) begun (l .calls)

@@ -2,3 +2,8 @@ pub mod Marked
 pub mod Permutation
 pub mod PaperBits
 pub mod Demand2
+pub mod Reading
+pub mod Lists
+pub mod Back
+pub mod Accept
+pub mod Demand3

@@ -2,3 +2,4 @@ pub mod Marked
 pub mod Permutation
 pub mod PaperBits
 pub mod Demand2
+pub mod Demand3

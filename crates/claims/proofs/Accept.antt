@@ -1,0 +1,479 @@
+-- Demand 3: the reader accepts exactly the files of the lists, and what it reads back of an accepted file makes that file.
+-- Assumes nothing.
+use mathlib.Core.Bool.{Bool, true, false, not}
+use mathlib.Core.List.{List, [], _∷_, _++_, append-assoc, append-nil}
+use mathlib.Core.Logic.{⊎-elim}
+use mathlib.Core.Option.{Option, some, none}
+use mathlib.Core.Path.{_≡_, refl, sym, ap, ap₂, subst, _∙_}
+use Prim.Native.Nat.{ℕ, zero, suc, _+_, _-_, _*_, _/_, _%_, _^_, _≤_, _<_}
+use native.Mathlib.Omega.{arith}
+use native.Mathlib.Nat.{pow-suc, eq-or-lt-of-le}
+use borrow.Author.Tests.{le-leb, eq-eqb, eqb-true, eqb-false}
+use lib.Dec.{eqb}
+use lib.ListN.{length, take, drop, length-append, length-drop, take-append-drop}
+use lib.Seq.{drop-drop, take-add, length-take-le, take-all}
+use Rattle.bytes_le.specs.Bytes.{Bytes, AllBytes, le, unle, leAt}
+use Rattle.bytes_le.proofs.All.{all-take, all-drop}
+use Rattle.icepole.specs.declared.Variant.the-variants.{Icepole128}
+use Rattle.icepole.specs.Variants.{sizes}
+use Rattle.icepole.specs.Sealing.{pick, sealed, secretOf, messageOf}
+use Rattle.icepole.proofs.OpenedBytes.{secret-bytes, message-bytes}
+use Rattle.burst.specs.Layout.{edition1, Identity, nonceOf, entryBytes, headerBytes, recordBytes, closingSeal}
+use Rattle.burst.specs.Numbers.{usedAfter, beginNumber}
+use Rattle.burst.specs.Index.{indexRules}
+use Rattle.burst.specs.Plain.{Shot, kept, gap, pictures, gaps, usedBy, records, index, Plain, headerOf, indexOf, fileOf, Call, keepShot, dropShot, closeBurst, CallList, numberOf, accepted, afterCall, afterCalls, begun, plainOf, beginRefusal}
+use Rattle.burst.proofs.Rules.{Obeys, index-used}
+use Rattle.burst.proofs.Numbers.{keep-0, drop-0, close-0, begin-0}
+use Rattle.burst.proofs.Sealer.{sealed128, length-secret128, length-message128}
+use Rattle.reader.specs.declared.Checked.{Checked}
+use Rattle.reader.specs.Front.{editionIn, takenIn, keptIn, droppedIn, burstNumberIn, pictureOffsetIn, indexOffsetIn, closingOffsetIn, totalIn, entryAt, entriesAt}
+use Rattle.reader.specs.Reader.{closingPart, recordPart, recordParts, agrees, secretIn, messageIn, firstDiffering, checkNumber, checkAnswer}
+use Rattle.reader.proofs.Rules.{Front, entries-obey, entries-end}
+use Rattle.reader.proofs.Parts.{first-agrees}
+use Rattle.reader.proofs.Answers.{Accepted, accepted as obeyed}
+use Rattle.trace.specs.Agreement.{Reached}
+use Rattle.trace.proofs.Shots.{Valid, pictures-gaps, pictures-append, used-least, used-append}
+use Rattle.trace.proofs.Agreement.{with}
+use Rattle.claims.specs.Demand3.{TypedCalls, Typed, FileOf, Accepts, GivenBack, burstIn, readShots, ReadBack, Reads}
+use Rattle.claims.proofs.Lists.{Fine, fine}
+use Rattle.claims.proofs.Back.{gives-back}
+
+-- ---- bytes and their numbers
+le-unle : (bs : Bytes) → AllBytes bs → le (length bs) (unle bs) ≡ bs
+le-unle [] b = refl
+le-unle (x ∷ xs) b =
+    let h = b .0 in
+    let e₁ : (x + 256 * unle xs) % 256 ≡ x = omega arith in
+    let e₂ : (x + 256 * unle xs) / 256 ≡ unle xs = omega arith in
+    let t = le-unle xs (b .1) in
+    rw (e₁, e₂, t)
+
+unle-less : (bs : Bytes) → AllBytes bs → unle bs < 256 ^ length bs
+unle-less [] b = omega arith
+unle-less (x ∷ xs) b =
+    let h = b .0 in
+    let t = unle-less xs (b .1) in
+    let e = pow-suc 256 (length xs) in
+    rw e (omega arith)
+
+module _ (f : Bytes) (fb : AllBytes f) where
+  part-length : (n at : ℕ) → at + n ≤ length f → length (take n (drop at f)) ≡ n
+  part-length n at h =
+      let d : length (drop at f) ≡ length f - at = length-drop at f in
+      length-take-le n (drop at f) (omega arith)
+
+  le-at : (n at : ℕ) → at + n ≤ length f → le n (leAt n f at) ≡ take n (drop at f)
+  unfolding leAt
+  le-at n at h =
+      ap (λ (k : ℕ). le k (unle (take n (drop at f)))) (sym (part-length n at h)) ∙ le-unle (take n (drop at f)) (all-take n (drop at f) (all-drop at f fb))
+
+  less-at : (n at : ℕ) → at + n ≤ length f → leAt n f at < 256 ^ n
+  unfolding leAt
+  less-at n at h = rw (part-length n at h) at (unle-less (take n (drop at f)) (all-take n (drop at f) (all-drop at f fb)))
+
+  -- an entry's twelve bytes
+  entry-bytes : (pos n at len : ℕ) → pos + 12 ≤ length f → leAt 2 f pos ≡ n → leAt 2 f (pos + 2) ≡ 0 → leAt 4 f (pos + 4) ≡ at → leAt 4 f (pos + 8) ≡ len
+      → entryBytes n 0 at len ≡ take 12 (drop pos f)
+  unfolding entryBytes
+  entry-bytes pos n at len h e₁ e₂ e₃ e₄ =
+      let g₁ : le 2 n ≡ take 2 (drop pos f) = ap (le 2) (sym e₁) ∙ le-at 2 pos (omega arith) in
+      let g₂ : le 2 0 ≡ take 2 (drop 2 (drop pos f)) = ap (le 2) (sym e₂) ∙ le-at 2 (pos + 2) (omega arith) ∙ ap (take 2) (sym (drop-drop 2 pos f)) in
+      let g₃ : le 4 at ≡ take 4 (drop 4 (drop pos f)) = ap (le 4) (sym e₃) ∙ le-at 4 (pos + 4) (omega arith) ∙ ap (take 4) (sym (drop-drop 4 pos f)) in
+      let g₄ : le 4 len ≡ take 4 (drop 8 (drop pos f)) = ap (le 4) (sym e₄) ∙ le-at 4 (pos + 8) (omega arith) ∙ ap (take 4) (sym (drop-drop 8 pos f)) in
+      let d = drop pos f in
+      let t₁ : take 12 d ≡ take 2 d ++ take 10 (drop 2 d) = take-add 2 10 d in
+      let t₂ : take 10 (drop 2 d) ≡ take 2 (drop 2 d) ++ take 8 (drop 4 d) = take-add 2 8 (drop 2 d) ∙ ap (λ (r : Bytes). take 2 (drop 2 d) ++ take 8 r) (drop-drop 2 2 d) in
+      let t₃ : take 8 (drop 4 d) ≡ take 4 (drop 4 d) ++ take 4 (drop 8 d) = take-add 4 4 (drop 4 d) ∙ ap (λ (r : Bytes). take 4 (drop 4 d) ++ take 4 r) (drop-drop 4 4 d) in
+      cc (g₁, g₂, g₃, g₄, t₁, t₂, t₃)
+
+-- ---- the list that a file says
+abbrev ShotBytes : List Shot → Type 0
+ShotBytes [] = Unit {0}
+ShotBytes (kept s p ∷ xs) = (AllBytes s × AllBytes p) × ShotBytes xs
+ShotBytes (gap ∷ xs) = ShotBytes xs
+
+apart : (a n : ℕ) → n ≤ a → (a ≡ n → ⊥) → n + 1 ≤ a
+apart a n h g = ⊎-elim (λ e. absurd (g (sym e))) (λ l. omega arith) (eq-or-lt-of-le h)
+
+module _ (key f : Bytes) (fb : AllBytes f) (taken end : ℕ) (he : end ≤ length f) where
+  abbrev shotAt : ℕ → ℕ
+  shotAt pos = entryAt f pos .shot .0
+
+  abbrev sizeAt : ℕ → ℕ
+  sizeAt pos = entryAt f pos .length
+
+  abbrev stampAt : ℕ → Bytes
+  stampAt pos = secretIn key f (recordPart f pos)
+
+  abbrev pictureIn : ℕ → Bytes
+  pictureIn pos = messageIn key f (recordPart f pos)
+
+  abbrev build : ℕ → ℕ → ℕ → ℕ → List Shot
+  build zero j n pos = []
+  build (suc left) zero n pos = gap ∷ build left zero (n + 1) pos
+  build (suc left) (suc j) n pos = pick (eqb (shotAt pos) n) (kept (stampAt pos) (pictureIn pos) ∷ build left j (n + 1) (pos + 12)) (gap ∷ build left (suc j) (n + 1) pos)
+
+  abbrev Rules : ℕ → ℕ → ℕ → ℕ → Type 0
+  Rules j pos last at = indexRules last at taken end (entriesAt j pos f) ≡ true
+
+  none-left : (pos last at : ℕ) → Rules zero pos last at → at ≡ end
+  none-left pos last at h = eqb-true _ _ (sym (entries-end f last at taken end pos) ∙ h)
+
+  at-most : (j pos last at : ℕ) → Rules j pos last at → at ≤ end
+  at-most j pos last at h = index-used (entriesAt j pos f) last at taken end h .0
+
+  abbrev Ahead : ℕ → ℕ → ℕ → Type 0
+  Ahead zero n pos = Unit {0}
+  Ahead (suc j) n pos = n ≤ shotAt pos
+
+  ahead : (j pos last at n : ℕ) → n ≡ last + 1 → Rules j pos last at → Ahead j n pos
+  ahead zero pos last at n e h = tt
+  ahead (suc j) pos last at n e h = let w = entries-obey f last at taken end j pos h .0 .more in omega arith
+
+  record Built (xs : List Shot) (left j n pos at : ℕ) : Type 0 where
+    pub size : length xs ≡ left
+    pub kept : pictures xs ≡ j
+    pub valid : Valid xs
+    pub ends : usedBy at xs ≡ end
+    pub indexed : index n at xs ≡ take (12 * j) (drop pos f)
+    pub recorded : records key (burstNumberIn f) n at xs ≡ take (end - at) (drop at f)
+    pub bytes : ShotBytes xs
+
+  record OneRecord (pos n at : ℕ) : Type 0 where
+    pub stamp : length (stampAt pos) ≡ 16
+    pub picture : length (pictureIn pos) ≡ sizeAt pos
+    pub entry : entryBytes n 0 at (sizeAt pos) ≡ take 12 (drop pos f)
+    pub record-is : recordBytes key (burstNumberIn f) n at (stampAt pos) (pictureIn pos) ≡ take (sizeAt pos + 32) (drop at f)
+    pub stamp-bytes : AllBytes (stampAt pos)
+    pub picture-bytes : AllBytes (pictureIn pos)
+
+  one-record : (pos n at : ℕ) → pos + 12 ≤ length f → at + sizeAt pos + 32 ≤ length f → shotAt pos ≡ n → entryAt f pos .zeros ≡ 0 → entryAt f pos .offset ≡ at
+      → agrees key f (recordPart f pos) ≡ true → OneRecord pos n at
+  unfolding agrees secretIn messageIn recordBytes
+  one-record pos n at hp ha e₁ e₂ e₃ o =
+      let q = sizes Icepole128 in
+      let len = sizeAt pos in
+      let nc = nonceOf (burstNumberIn f) (shotAt pos) in
+      let ad = take 12 (drop pos f) in
+      let c = take (len + 32) (drop (entryAt f pos .offset) f) in
+      let eb : entryBytes n 0 at len ≡ ad = entry-bytes f fb pos n at len hp e₁ e₂ e₃ refl in
+      let lc : length c ≡ len + 32 = part-length f fb (len + 32) (entryAt f pos .offset) (omega arith) in
+      let cb : AllBytes c = all-take (len + 32) (drop (entryAt f pos .offset) f) (all-drop (entryAt f pos .offset) f fb) in
+      let s = sealed128 key nc ad c (omega arith) o in
+      let lm : length (messageOf q key nc ad c) ≡ len = length-message128 key nc ad c (omega arith) ∙ (let z : length c - 32 ≡ len = omega arith in z) in
+      record {
+        stamp = length-secret128 key nc ad c (omega arith);
+        picture = lm;
+        entry = eb;
+        record-is =
+            ap (λ (k : ℕ). sealed q key (nonceOf (burstNumberIn f) n) (secretOf q key nc c) (entryBytes n 0 at k) (messageOf q key nc ad c)) lm
+            ∙ ap₂ (λ (i : ℕ) (a : Bytes). sealed q key (nonceOf (burstNumberIn f) i) (secretOf q key nc c) a (messageOf q key nc ad c)) (sym e₁) eb
+            ∙ sym s
+            ∙ ap (λ (i : ℕ). take (len + 32) (drop i f)) e₃;
+        stamp-bytes = secret-bytes q key nc ad c cb;
+        picture-bytes = message-bytes q key nc ad c cb;
+      }
+
+  built-none : (left n pos last at : ℕ) → Rules zero pos last at → Built (build left zero n pos) left zero n pos at
+  built-none zero n pos last at h =
+      let e = none-left pos last at h in
+      let z : end - at ≡ 0 = omega arith in
+      record { size = refl; kept = refl; valid = tt; ends = e; indexed = refl; recorded = sym (ap (λ (k : ℕ). take k (drop at f)) z); bytes = tt }
+  built-none (suc left) n pos last at h =
+      let b = built-none left (n + 1) pos last at h in
+      record { size = ap suc (b .size); kept = b .kept; valid = b .valid; ends = b .ends; indexed = b .indexed; recorded = b .recorded; bytes = b .bytes }
+
+  abbrev Opens : ℕ → ℕ → Type 0
+  Opens j pos = firstDiffering key f (recordParts j pos f) ≡ none
+
+  opens-next : (j pos : ℕ) → Opens (suc j) pos → (agrees key f (recordPart f pos) ≡ true) × Opens j (pos + 12)
+  unfolding recordParts
+  opens-next j pos h = first-agrees key f (recordPart f pos) (recordParts j (pos + 12) f) h
+
+  built-step : (left j n pos last at : ℕ) (z : Bool) → eqb (shotAt pos) n ≡ z → Rules (suc j) pos last at → n ≤ shotAt pos → pos + 12 * suc j ≤ length f
+      → Opens (suc j) pos
+      → ((shotAt pos ≡ n) → Built (build left j (n + 1) (pos + 12)) left j (n + 1) (pos + 12) (at + sizeAt pos + 32))
+      → ((n + 1 ≤ shotAt pos) → Built (build left (suc j) (n + 1) pos) left (suc j) (n + 1) pos at)
+      → Built (build (suc left) (suc j) n pos) (suc left) (suc j) n pos at
+  built-step left j n pos last at true z h a hp r on off =
+      let e = eqb-true _ _ z in
+      let w = entries-obey f last at taken end j pos h in
+      let len = sizeAt pos in
+      let b = on e in
+      let m = at-most j (pos + 12) (shotAt pos) (at + len + 32) (w .1) in
+      let o = one-record pos n at (omega arith) (omega arith) e (w .0 .zeros) (w .0 .touches) (opens-next j pos r .0) in
+      let s = stampAt pos in
+      let p = pictureIn pos in
+      let lm : length p ≡ len = o .picture in
+      let q : at + length p + 32 ≡ at + len + 32 = ap (λ (k : ℕ). at + k + 32) lm in
+      let ys = build left j (n + 1) (pos + 12) in
+      let q₁ : 12 * suc j ≡ 12 + 12 * j = omega arith in
+      let q₂ : end - at ≡ len + 32 + (end - (at + len + 32)) = omega arith in
+      let q₃ : at + (len + 32) ≡ at + len + 32 = omega arith in
+      let ix : entryBytes n 0 at (length p) ++ index (n + 1) (at + length p + 32) ys ≡ take (12 * suc j) (drop pos f) =
+      ap₂ (λ (l : Bytes) (k : ℕ). l ++ index (n + 1) k ys) (ap (entryBytes n 0 at) lm ∙ o .entry) q
+      ∙ ap (λ (l : Bytes). take 12 (drop pos f) ++ l) (b .indexed ∙ ap (take (12 * j)) (sym (drop-drop 12 pos f)))
+      ∙ sym (ap (λ (k : ℕ). take k (drop pos f)) q₁ ∙ take-add 12 (12 * j) (drop pos f)) in
+      let rc : recordBytes key (burstNumberIn f) n at s p ++ records key (burstNumberIn f) (n + 1) (at + length p + 32) ys ≡ take (end - at) (drop at f) =
+      ap₂ (λ (l : Bytes) (k : ℕ). l ++ records key (burstNumberIn f) (n + 1) k ys) (o .record-is) q
+      ∙ ap (λ (l : Bytes). take (len + 32) (drop at f) ++ l) (b .recorded ∙ ap (take (end - (at + len + 32))) (ap (λ (k : ℕ). drop k f) (sym q₃) ∙ sym (drop-drop (len + 32) at f)))
+      ∙ sym (ap (λ (k : ℕ). take k (drop at f)) q₂ ∙ take-add (len + 32) (end - (at + len + 32)) (drop at f)) in
+      let l₁ = w .0 .least in
+      let l₂ = w .0 .size in
+      subst (λ (l : List Shot). Built l (suc left) (suc j) n pos at) (sym (let g : build (suc left) (suc j) n pos ≡ kept s p ∷ ys = simp z in g))
+      (record {
+        size = ap suc (b .size);
+        kept = ap suc (b .kept);
+        valid = ((o .stamp, omega (arith, lm, l₁), omega (arith, lm, l₂)), b .valid);
+        ends = ap (λ (k : ℕ). usedBy k ys) q ∙ b .ends;
+        indexed = ix;
+        recorded = rc;
+        bytes = ((o .stamp-bytes, o .picture-bytes), b .bytes);
+      })
+  built-step left j n pos last at false z h a hp r on off =
+      let b = off (apart (shotAt pos) n a (eqb-false _ _ z)) in
+      subst (λ (l : List Shot). Built l (suc left) (suc j) n pos at) (sym (let q : build (suc left) (suc j) n pos ≡ gap ∷ build left (suc j) (n + 1) pos = simp z in q))
+      (record { size = ap suc (b .size); kept = b .kept; valid = b .valid; ends = b .ends; indexed = b .indexed; recorded = b .recorded; bytes = b .bytes })
+
+  built : (left j n pos last at : ℕ) → n + left ≡ taken + 1 → last < n → Rules j pos last at → Ahead j n pos → pos + 12 * j ≤ length f
+      → Opens j pos → Built (build left j n pos) left j n pos at
+  built left zero n pos last at e s h a hp r = built-none left n pos last at h
+  built zero (suc j) n pos last at e s h a hp r = let w = entries-obey f last at taken end j pos h .0 .most in absurd (omega arith)
+  built (suc left) (suc j) n pos last at e s h a hp r =
+      let w = entries-obey f last at taken end j pos h in
+      built-step left j n pos last at _ refl h a hp r
+      (λ g. built left j (n + 1) (pos + 12) (shotAt pos) (at + sizeAt pos + 32) (omega arith) (omega arith) (w .1)
+      (ahead j (pos + 12) (shotAt pos) (at + sizeAt pos + 32) (n + 1) (omega arith) (w .1)) (omega arith) (opens-next j pos r .1))
+      (λ g. built left (suc j) (n + 1) pos last at (omega arith) (omega arith) h g hp r)
+
+-- ---- the calls that make a list of shots
+abbrev callsOf : List Shot → List Call
+callsOf [] = closeBurst ∷ []
+callsOf (kept s p ∷ xs) = keepShot s p ∷ callsOf xs
+callsOf (gap ∷ xs) = dropShot ∷ callsOf xs
+
+typed-calls : (xs : List Shot) → ShotBytes xs → TypedCalls (callsOf xs)
+typed-calls [] b = tt
+typed-calls (kept s p ∷ xs) b = (b .0, typed-calls xs (b .1))
+typed-calls (gap ∷ xs) b = typed-calls xs b
+
+module _ (q : Plain) (n : ℕ) where
+  close-yes : (ys : List Shot) → usedBy 32 ys + 12 * pictures ys + 32 ≤ n → afterCall edition1 n (with q ys false) closeBurst ≡ with q ys true
+  unfolding afterCall numberOf accepted
+  close-yes ys h = simp (sym (close-0 true (pictures ys) (usedBy 32 ys) n refl h))
+
+  drop-yes : (ys : List Shot) → length ys < 60 → afterCall edition1 n (with q ys false) dropShot ≡ with q (ys ++ (gap ∷ [])) false
+  unfolding afterCall numberOf accepted
+  drop-yes ys h = simp (sym (drop-0 true (length ys) refl h))
+
+  keep-yes : (ys : List Shot) (s p : Bytes) → length s ≡ 16 → length ys < 60 → 1 ≤ length p → length p ≤ 1048576 → usedBy 32 ys + length p + 32 + 12 * (pictures ys + 1) + 32 ≤ n
+      → afterCall edition1 n (with q ys false) (keepShot s p) ≡ with q (ys ++ (kept s p ∷ [])) false
+  unfolding afterCall numberOf accepted
+  keep-yes ys s p h₁ h₂ h₃ h₄ h₅ = simp (sym (keep-0 true (length ys) (pictures ys) (usedBy 32 ys) (length s) (length p) n refl h₁ h₂ h₃ h₄ h₅))
+
+  runs : (xs ys : List Shot) → Valid xs → length ys + length xs ≤ 60 → usedBy (usedBy 32 ys) xs + 12 * (pictures ys + pictures xs) + 32 ≤ n
+      → afterCalls edition1 n (with q ys false) (callsOf xs) ≡ with q (ys ++ xs) true
+  runs [] ys v l h = close-yes ys (omega arith) ∙ ap (λ (zs : List Shot). with q zs true) (sym (append-nil ys))
+  runs (kept s p ∷ xs) ys v l h =
+      let a = used-least (usedBy 32 ys + length p + 32) xs in
+      let e = keep-yes ys s p (v .0 .0) (omega arith) (v .0 .1) (v .0 .2) (omega arith) in
+      let e₁ : usedBy 32 (ys ++ (kept s p ∷ [])) ≡ usedBy 32 ys + length p + 32 = used-append 32 ys (kept s p ∷ []) in
+      let e₂ : pictures (ys ++ (kept s p ∷ [])) ≡ pictures ys + 1 = pictures-append ys (kept s p ∷ []) in
+      let e₃ : length (ys ++ (kept s p ∷ [])) ≡ length ys + 1 = length-append ys (kept s p ∷ []) in
+      let h₁ : usedBy (usedBy 32 (ys ++ (kept s p ∷ []))) xs + 12 * (pictures (ys ++ (kept s p ∷ [])) + pictures xs) + 32 ≤ n = rw (e₁, e₂) (omega arith) in
+      ap (λ (r : Plain). afterCalls edition1 n r (callsOf xs)) e ∙ runs xs (ys ++ (kept s p ∷ [])) (v .1) (omega arith) h₁ ∙ ap (λ (zs : List Shot). with q zs true) (append-assoc ys (kept s p ∷ []) xs)
+  runs (gap ∷ xs) ys v l h =
+      let e = drop-yes ys (omega arith) in
+      let e₁ : usedBy 32 (ys ++ (gap ∷ [])) ≡ usedBy 32 ys = used-append 32 ys (gap ∷ []) in
+      let e₂ : pictures (ys ++ (gap ∷ [])) ≡ pictures ys + 0 = pictures-append ys (gap ∷ []) in
+      let e₃ : length (ys ++ (gap ∷ [])) ≡ length ys + 1 = length-append ys (gap ∷ []) in
+      let h₁ : usedBy (usedBy 32 (ys ++ (gap ∷ []))) xs + 12 * (pictures (ys ++ (gap ∷ [])) + pictures xs) + 32 ≤ n = rw (e₁, e₂) (omega arith) in
+      ap (λ (r : Plain). afterCalls edition1 n r (callsOf xs)) e ∙ runs xs (ys ++ (gap ∷ [])) v (omega arith) h₁ ∙ ap (λ (zs : List Shot). with q zs true) (append-assoc ys (gap ∷ []) xs)
+
+-- ---- a header's bytes
+header-bytes : (f : Bytes) → AllBytes f → 32 ≤ length f → (t k d n u : ℕ) → leAt 2 f 0 ≡ 1 → leAt 2 f 2 ≡ t → leAt 2 f 4 ≡ k → leAt 2 f 6 ≡ d → leAt 8 f 8 ≡ n → leAt 4 f 16 ≡ 32 → leAt 4 f 20 ≡ u
+    → leAt 4 f 24 ≡ u + 12 * k → leAt 4 f 28 ≡ u + 12 * k + 32 → headerBytes edition1 t k d n u ≡ take 32 f
+unfolding headerBytes
+header-bytes f fb h t k d n u e₀ e₁ e₂ e₃ e₄ e₅ e₆ e₇ e₈ =
+    let g₀ : le 2 1 ≡ take 2 f = ap (le 2) (sym e₀) ∙ le-at f fb 2 0 (omega arith) in
+    let g₁ : le 2 t ≡ take 2 (drop 2 f) = ap (le 2) (sym e₁) ∙ le-at f fb 2 2 (omega arith) in
+    let g₂ : le 2 k ≡ take 2 (drop 4 f) = ap (le 2) (sym e₂) ∙ le-at f fb 2 4 (omega arith) in
+    let g₃ : le 2 d ≡ take 2 (drop 6 f) = ap (le 2) (sym e₃) ∙ le-at f fb 2 6 (omega arith) in
+    let g₄ : le 8 n ≡ take 8 (drop 8 f) = ap (le 8) (sym e₄) ∙ le-at f fb 8 8 (omega arith) in
+    let g₅ : le 4 32 ≡ take 4 (drop 16 f) = ap (le 4) (sym e₅) ∙ le-at f fb 4 16 (omega arith) in
+    let g₆ : le 4 u ≡ take 4 (drop 20 f) = ap (le 4) (sym e₆) ∙ le-at f fb 4 20 (omega arith) in
+    let g₇ : le 4 (u + 12 * k) ≡ take 4 (drop 24 f) = ap (le 4) (sym e₇) ∙ le-at f fb 4 24 (omega arith) in
+    let g₈ : le 4 (u + 12 * k + 32) ≡ take 4 (drop 28 f) = ap (le 4) (sym e₈) ∙ le-at f fb 4 28 (omega arith) in
+    let p₀ = take-add 2 30 f in
+    let p₁ = next 2 2 28 in
+    let p₂ = next 2 4 26 in
+    let p₃ = next 2 6 24 in
+    let p₄ = next 8 8 16 in
+    let p₅ = next 4 16 12 in
+    let p₆ = next 4 20 8 in
+    let p₇ = next 4 24 4 in
+    cc (g₀, g₁, g₂, g₃, g₄, g₅, g₆, g₇, g₈, p₀, p₁, p₂, p₃, p₄, p₅, p₆, p₇)
+  where
+    next : (i at j : ℕ) → take (i + j) (drop at f) ≡ take i (drop at f) ++ take j (drop (at + i) f)
+    next i at j = take-add i j (drop at f) ∙ ap (λ (r : Bytes). take i (drop at f) ++ take j r) (drop-drop i at f)
+
+-- ---- an accepted file is a list's
+length-zero : (l : Bytes) → length l ≡ 0 → l ≡ []
+length-zero [] h = refl
+length-zero (x ∷ xs) h = absurd (omega arith)
+
+module _ (key f : Bytes) (kb : AllBytes key) (fb : AllBytes f) (ok : Accepted key f) where
+  abbrev fr : Front f
+  fr = ok .front
+
+  abbrev i : ℕ
+  i = indexOffsetIn f
+
+  abbrev k : ℕ
+  k = keptIn f
+
+  end-is : i + 12 * k + 32 ≡ length f
+  end-is = let a = fr .closing in let b = fr .total in let c = fr .size in omega arith
+
+  within : i ≤ length f
+  within = let w = end-is in omega arith
+
+  abbrev xs : List Shot
+  xs = build key f fb (takenIn f) i within (takenIn f) k 1 i
+
+  made : Built key f fb (takenIn f) i within xs (takenIn f) k 1 i 32
+  made =
+      built key f fb (takenIn f) i within (takenIn f) k 1 i 0 32 (omega arith) (omega arith) (fr .index)
+      (ahead key f fb (takenIn f) i within k i 0 32 1 (omega arith) (fr .index)) (let w = end-is in omega arith) (ok .records)
+
+  abbrev m : Bytes
+  m = secretIn key f (closingPart f)
+
+  last : length (drop (i + 12 * k) f) ≡ 32
+  last = let w = end-is in length-drop (i + 12 * k) f ∙ (let q : length f - (i + 12 * k) ≡ 32 = omega arith in q)
+
+  all-of-last : take (0 + 32) (drop (i + 12 * k) f) ≡ drop (i + 12 * k) f
+  all-of-last = take-all (0 + 32) (drop (i + 12 * k) f) (let w = last in omega arith)
+
+  last-length : length (take (0 + 32) (drop (i + 12 * k) f)) ≡ 32
+  last-length = ap length all-of-last ∙ last
+
+  site16 : length m ≡ 16
+  unfolding secretIn
+  site16 = length-secret128 key (nonceOf (burstNumberIn f) 0) [] (take (0 + 32) (drop (i + 12 * k) f)) (let w = last-length in omega arith)
+
+  site-bytes : AllBytes m
+  unfolding secretIn
+  site-bytes = secret-bytes (sizes Icepole128) key (nonceOf (burstNumberIn f) 0) [] (take (0 + 32) (drop (i + 12 * k) f)) (all-take (0 + 32) (drop (i + 12 * k) f) (all-drop (i + 12 * k) f fb))
+
+  closing-is : sealed (sizes Icepole128) key (nonceOf (burstNumberIn f) 0) m (take 32 f ++ take (12 * k) (drop i f)) [] ≡ drop (i + 12 * k) f
+  unfolding agrees secretIn
+  closing-is =
+      let q = sizes Icepole128 in
+      let nc = nonceOf (burstNumberIn f) 0 in
+      let ad = take 32 f ++ take (12 * k) (drop i f) in
+      let c = take (0 + 32) (drop (i + 12 * k) f) in
+      let l = last-length in
+      let e = length-message128 key nc ad c (omega arith) in
+      let z : messageOf q key nc ad c ≡ [] = length-zero _ (e ∙ (let y : length c - 32 ≡ 0 = omega arith in y)) in
+      ap (λ (x : Bytes). sealed q key nc (secretOf q key nc c) ad x) (sym z) ∙ sym (sealed128 key nc ad c (omega arith) (ok .closing)) ∙ all-of-last
+
+  abbrev l : CallList
+  l = record { key = key; identity = record { burstNumber = burstNumberIn f; siteMark = m }; bufferLength = length f; calls = callsOf xs }
+
+  abbrev p : Plain
+  p = record { key = key; identity = record { burstNumber = burstNumberIn f; siteMark = m }; shots = xs; closed = true }
+
+  begins-0 : beginRefusal edition1 l ≡ 0
+  begins-0 = sym (begin-0 (length key) (length m) (length f) (ok .key16) site16 (fr .least))
+
+  plain-is : plainOf edition1 l ≡ p
+  unfolding plainOf begun
+  plain-is =
+      let b = made in
+      let c₁ = b .kept in
+      let c₂ = b .ends in
+      let c₃ = b .size in
+      let w = end-is in
+      let c₄ = fr .most in
+      simp begins-0 (runs p (length f) xs [] (b .valid) (omega arith) (omega arith))
+
+  heads : headerBytes edition1 (length xs) (pictures xs) (gaps xs) (burstNumberIn f) (usedBy 32 xs) ≡ take 32 f
+  heads =
+      let b = made in
+      let g : gaps xs ≡ droppedIn f = let c₁ = b .kept in let c₂ = b .size in let c₃ = fr .counts in let c₄ = pictures-gaps xs in omega arith in
+      let e : headerBytes edition1 (takenIn f) k (droppedIn f) (burstNumberIn f) i ≡ take 32 f =
+      header-bytes f fb (let a = fr .least in omega arith) (takenIn f) k (droppedIn f) (burstNumberIn f) i (fr .edition) refl refl refl refl (fr .pictures) refl (fr .closing)
+      (fr .total ∙ ap (λ (n : ℕ). n + 32) (fr .closing)) in
+      cc (b .size, b .kept, g, b .ends, e)
+
+  file-is : fileOf edition1 p ≡ f
+  unfolding fileOf headerOf indexOf closingSeal
+  file-is =
+      let b = made in
+      let hd = headerBytes edition1 (length xs) (pictures xs) (gaps xs) (burstNumberIn f) (usedBy 32 xs) in
+      let ix = index 1 32 xs in
+      let e₁ : hd ≡ take 32 f = heads in
+      let e₂ : ix ≡ take (12 * k) (drop i f) = b .indexed in
+      let e₃ : records key (burstNumberIn f) 1 32 xs ≡ take (i - 32) (drop 32 f) = b .recorded in
+      let cl : sealed (sizes Icepole128) key (nonceOf (burstNumberIn f) 0) m (hd ++ ix) [] ≡ drop (i + 12 * k) f =
+      ap₂ (λ (x y : Bytes). sealed (sizes Icepole128) key (nonceOf (burstNumberIn f) 0) m (x ++ y) []) e₁ e₂ ∙ closing-is in
+      let d₁ : take (12 * k) (drop i f) ++ drop (i + 12 * k) f ≡ drop i f = ap (λ (r : Bytes). take (12 * k) (drop i f) ++ r) (sym (drop-drop (12 * k) i f)) ∙ take-append-drop (12 * k) (drop i f) in
+      let q : 32 + (i - 32) ≡ i = let a = at-most key f fb (takenIn f) i within k i 0 32 (fr .index) in omega arith in
+      let d₂ : take (i - 32) (drop 32 f) ++ drop i f ≡ drop 32 f =
+      ap (λ (r : Bytes). take (i - 32) (drop 32 f) ++ r) (ap (λ (n : ℕ). drop n f) (sym q) ∙ sym (drop-drop (i - 32) 32 f)) ∙ take-append-drop (i - 32) (drop 32 f) in
+      let d₃ : take 32 f ++ drop 32 f ≡ f = take-append-drop 32 f in
+      cc (e₁, e₂, e₃, cl, d₁, d₂, d₃)
+
+  short : length f < 2 ^ 63
+  short = let s = fr .size in let a = fr .least in let u = less-at f fb 4 28 (omega arith) in omega arith
+
+  pub file-of : FileOf key f
+  file-of = record {
+    list = l;
+    typed = record {
+      key = kb;
+      burstNumber = less-at f fb 8 8 (let a = fr .least in omega arith);
+      siteMark = site-bytes;
+      buffer = short;
+      calls = typed-calls xs (made .bytes);
+    };
+    keyed = refl;
+    reached = record { begun = begins-0; closed = ap (λ (x : Plain). x .closed) plain-is };
+    file = ap (fileOf edition1) plain-is ∙ file-is;
+  }
+
+check-number : (key f : Bytes) → checkAnswer key f .refusal ≡ checkNumber key f
+unfolding checkAnswer
+check-number key f = refl
+
+pub accepts : Accepts
+accepts key f kb fb = (
+  λ h. file-of key f kb fb (obeyed key f (sym (check-number key f) ∙ h)),
+  λ w.
+      let e : checkAnswer (w .list .key) (fileOf edition1 (plainOf edition1 (w .list))) .refusal ≡ 0 =
+      ap (λ (x : Checked). x .refusal) (gives-back (w .list) (w .typed .burstNumber) (w .reached) .checked) in
+      subst (λ (x : Bytes). checkAnswer key x .refusal ≡ 0) (w .file) (subst (λ (x : Bytes). checkAnswer x (fileOf edition1 (plainOf edition1 (w .list))) .refusal ≡ 0) (w .keyed) e),
+)
+
+-- ---- what is read back of an accepted file
+same-file : (p q : Plain) → p .key ≡ q .key → p .identity ≡ q .identity → p .shots ≡ q .shots → fileOf edition1 p ≡ fileOf edition1 q
+unfolding fileOf headerOf indexOf
+same-file p q e₁ e₂ e₃ = cc
+
+pub reads : Reads
+reads key f kb fb h =
+    let w = accepts key f kb fb .0 h in
+    let p = plainOf edition1 (w .list) in
+    let g₀ = gives-back (w .list) (w .typed .burstNumber) (w .reached) in
+    let g = subst (λ (x : Bytes). GivenBack key x p) (w .file) (subst (λ (x : Bytes). GivenBack x (fileOf edition1 p) p) (w .keyed) g₀) in
+    let c = g .checked in
+    let fp = fine (w .list) (w .reached) in
+    record {
+      counts = ap (λ (x : Checked). x .taken) c ∙ g .counts ∙ sym (ap₂ (λ (a b : ℕ). a + b) (ap (λ (x : Checked). x .kept) c) (ap (λ (x : Checked). x .dropped) c));
+      file =
+          same-file (burstIn key f) p (sym (fp .key ∙ w .keyed))
+          (ap₂ (λ (n : ℕ) (m : Bytes). let i : Identity = record { burstNumber = n; siteMark = m } in i) (ap (λ (x : Checked). x .«burst_number») c) (ap (λ (x : Checked). x .«site_mark») c))
+          (g .shots)
+          ∙ w .file;
+    }

@@ -1,0 +1,193 @@
+-- The file of a plain burst, read: header, index and records stand where the reader looks for them, and every seal opens to what was sealed.
+-- Assumes nothing.
+use mathlib.Core.Bool.{Bool, true, false}
+use mathlib.Core.List.{List, [], _∷_, _++_, append-assoc, append-nil}
+use mathlib.Core.Option.{Option, some, none, Option·some-injective}
+use mathlib.Core.Path.{_≡_, refl, sym, ap, ap₂, subst, _∙_}
+use Prim.Native.Nat.{ℕ, zero, suc, _+_, _-_, _*_, _≤_, _<_}
+use native.Mathlib.Omega.{arith}
+use lib.ListN.{length, take, drop, length-append}
+use lib.Seq.{take-at, drop-at, drop-drop}
+use Rattle.bytes_le.specs.Bytes.{Bytes, le, unle, leAt}
+use Rattle.bytes_le.proofs.Laws.{unle-2, unle-4, unle-8}
+use Rattle.icepole.specs.declared.Variant.the-variants.{Icepole128}
+use Rattle.icepole.specs.Variants.{sizes}
+use Rattle.icepole.specs.Sealing.{sealed, secretOf, messageOf}
+use Rattle.icepole.specs.Answers.{tagAgrees}
+use Rattle.burst.specs.declared.Entry.{Entry}
+use Rattle.burst.specs.Layout.{edition1, Identity, nonceOf, entryBytes, headerBytes, recordBytes, closingSeal}
+use Rattle.burst.specs.Index.{entryOf}
+use Rattle.burst.specs.Plain.{Shot, kept, gap, pictures, gaps, usedBy, records, index}
+use Rattle.burst.proofs.Sealer.{agrees128, secret128, message128}
+use Rattle.reader.specs.Front.{editionIn, takenIn, keptIn, droppedIn, burstNumberIn, pictureOffsetIn, indexOffsetIn, closingOffsetIn, totalIn, entryAt, entriesAt}
+use Rattle.reader.specs.Reader.{Part, recordPart, recordParts, agrees, secretIn, messageIn, sealedIn, firstDiffering}
+use Rattle.reader.proofs.Parts.{parts-end, parts-next}
+use Rattle.reader.proofs.Fields.{entry-same}
+use Rattle.trace.proofs.Shots.{Valid, entries, used-least, length-record}
+use Rattle.claims.specs.Demand3.{Picture, pictureAt}
+
+-- ---- one entry, where it stands
+pub record EntryIn (f rest : Bytes) (pos n at len : ℕ) : Type 0 where
+  pub is : entryAt f pos ≡ entryOf n at len
+  pub bytes : take 12 (drop pos f) ≡ entryBytes n 0 at len
+  pub next : drop (pos + 12) f ≡ rest
+
+pub entry-in : (f rest : Bytes) (pos n at len : ℕ) → n < 65536 → at < 4294967296 → len < 4294967296 → drop pos f ≡ entryBytes n 0 at len ++ rest → EntryIn f rest pos n at len
+unfolding leAt entryBytes
+entry-in f rest pos n at len hn ha hl e = record {
+  is = entry-same
+      (ap (λ (l : Bytes). unle (take 2 l)) e ∙ unle-2 n hn)
+      (ap (λ (l : Bytes). unle (take 2 l)) (sym (drop-drop 2 pos f) ∙ ap (drop 2) e))
+      (ap (λ (l : Bytes). unle (take 4 l)) (sym (drop-drop 4 pos f) ∙ ap (drop 4) e) ∙ unle-4 at ha)
+      (ap (λ (l : Bytes). unle (take 4 l)) (sym (drop-drop 8 pos f) ∙ ap (drop 8) e) ∙ unle-4 len hl);
+  bytes = ap (take 12) e;
+  next = sym (drop-drop 12 pos f) ∙ ap (drop 12) e;
+}
+
+module _ (f key : Bytes) (taken end : ℕ) (ht : taken ≤ 60) (he : end < 4294967296) where
+  -- the first entry of an index that starts with a kept shot
+  first-entry : (s p : Bytes) (xs : List Shot) (n at pos : ℕ) (rest : Bytes) → Valid (kept s p ∷ xs) → n + length (kept s p ∷ xs) ≤ taken + 1 → end ≡ usedBy at (kept s p ∷ xs)
+      → drop pos f ≡ index n at (kept s p ∷ xs) ++ rest → EntryIn f (index (n + 1) (at + length p + 32) xs ++ rest) pos n at (length p)
+  first-entry s p xs n at pos rest v g e d =
+      let a = used-least (at + length p + 32) xs in
+      entry-in f _ pos n at (length p) (omega arith) (omega arith) (let c = v .0 .2 in omega arith)
+      (d ∙ append-assoc (entryBytes n 0 at (length p)) (index (n + 1) (at + length p + 32) xs) rest)
+
+  -- the entries that the reader finds are those of the shots
+  pub entries-read : (xs : List Shot) (n at pos : ℕ) (rest : Bytes) → Valid xs → n + length xs ≤ taken + 1 → end ≡ usedBy at xs
+      → drop pos f ≡ index n at xs ++ rest → entriesAt (pictures xs) pos f ≡ entries n at xs
+  unfolding entriesAt
+  entries-read [] n at pos rest v g e d = refl
+  entries-read (kept s p ∷ xs) n at pos rest v g e d =
+      let w = first-entry s p xs n at pos rest v g e d in
+      ap₂ (λ (x : Entry) (l : List Entry). x ∷ l) (w .is) (entries-read xs (n + 1) (at + length p + 32) (pos + 12) rest (v .1) (omega arith) e (w .next))
+  entries-read (gap ∷ xs) n at pos rest v g e d = entries-read xs (n + 1) at pos rest v (omega arith) e d
+
+  -- ---- a record, where it stands
+  abbrev part : ℕ → ℕ → ℕ → Part
+  part n at len = record { shot = n; associated = entryBytes n 0 at len; offset = at; count = len }
+
+  part-is : (rest : Bytes) (pos n at len : ℕ) → EntryIn f rest pos n at len → recordPart f pos ≡ part n at len
+  part-is rest pos n at len w =
+      ap₂ (λ (x : Entry) (b : Bytes). let y : Part = record { shot = x .shot .0; associated = b; offset = x .offset; count = x .length } in y) (w .is) (w .bytes)
+
+  pub record OpensTo (pos : ℕ) (s p c : Bytes) : Type 0 where
+    pub agrees : agrees key f (recordPart f pos) ≡ true
+    pub secret : secretIn key f (recordPart f pos) ≡ s
+    pub message : messageIn key f (recordPart f pos) ≡ p
+    pub sealed : sealedIn key f (recordPart f pos) ≡ c
+
+  opens-part : (n at : ℕ) (s p rest : Bytes) → length s ≡ 16 → drop at f ≡ recordBytes key (burstNumberIn f) n at s p ++ rest
+      → (agrees key f (part n at (length p)) ≡ true) × (secretIn key f (part n at (length p)) ≡ s) × (messageIn key f (part n at (length p)) ≡ p)
+      × (sealedIn key f (part n at (length p)) ≡ recordBytes key (burstNumberIn f) n at s p)
+  unfolding agrees secretIn messageIn recordBytes
+  opens-part n at s p rest hs d =
+      let q = sizes Icepole128 in
+      let nc = nonceOf (burstNumberIn f) n in
+      let ad = entryBytes n 0 at (length p) in
+      let t : take (length p + 32) (drop at f) ≡ recordBytes key (burstNumberIn f) n at s p =
+      ap (take (length p + 32)) d ∙ take-at _ rest (length p + 32) (length-record key (burstNumberIn f) n at s p hs) in (
+        ap (tagAgrees q key nc ad) t ∙ agrees128 key nc s ad p hs,
+        ap (secretOf q key nc) t ∙ secret128 key nc s ad p hs,
+        ap (messageOf q key nc ad) t ∙ message128 key nc s ad p hs,
+        t,
+      )
+
+  opens-to : (n at pos : ℕ) (s p rest rest₂ : Bytes) → EntryIn f rest pos n at (length p) → length s ≡ 16 → drop at f ≡ recordBytes key (burstNumberIn f) n at s p ++ rest₂
+      → OpensTo pos s p (recordBytes key (burstNumberIn f) n at s p)
+  opens-to n at pos s p rest rest₂ w hs d =
+      let o = opens-part n at s p rest₂ hs d in
+      let e = part-is rest pos n at (length p) w in
+      record {
+        agrees = ap (agrees key f) e ∙ o .0;
+        secret = ap (secretIn key f) e ∙ o .1;
+        message = ap (messageIn key f) e ∙ o .2;
+        sealed = ap (sealedIn key f) e ∙ o .3;
+      }
+
+  -- the record of a first kept shot, and the records behind it
+  first-record : (s p : Bytes) (xs : List Shot) (n at : ℕ) (rest : Bytes) → length s ≡ 16 → drop at f ≡ records key (burstNumberIn f) n at (kept s p ∷ xs) ++ rest
+      → (drop at f ≡ recordBytes key (burstNumberIn f) n at s p ++ (records key (burstNumberIn f) (n + 1) (at + length p + 32) xs ++ rest))
+      × (drop (at + length p + 32) f ≡ records key (burstNumberIn f) (n + 1) (at + length p + 32) xs ++ rest)
+  first-record s p xs n at rest hs d =
+      let rb = recordBytes key (burstNumberIn f) n at s p in
+      let rs = records key (burstNumberIn f) (n + 1) (at + length p + 32) xs ++ rest in
+      let d₃ : drop at f ≡ rb ++ rs = d ∙ append-assoc rb _ rest in
+      let l : length rb ≡ length p + 32 = length-record key (burstNumberIn f) n at s p hs in
+      let q : at + length rb ≡ at + length p + 32 = omega arith in
+      (d₃, ap (λ (k : ℕ). drop k f) (sym q) ∙ sym (drop-drop (length rb) at f) ∙ ap (drop (length rb)) d₃ ∙ drop-at rb rs (length rb) refl)
+
+  pub records-agree : (xs : List Shot) (n at pos : ℕ) (rest rest₂ : Bytes) → Valid xs → n + length xs ≤ taken + 1 → end ≡ usedBy at xs
+      → drop pos f ≡ index n at xs ++ rest → drop at f ≡ records key (burstNumberIn f) n at xs ++ rest₂ → firstDiffering key f (recordParts (pictures xs) pos f) ≡ none
+  records-agree [] n at pos rest rest₂ v g e d d₂ = parts-end key f pos
+  records-agree (kept s p ∷ xs) n at pos rest rest₂ v g e d d₂ =
+      let w = first-entry s p xs n at pos rest v g e d in
+      let r = first-record s p xs n at rest₂ (v .0 .0) d₂ in
+      parts-next key f (pictures xs) pos (opens-to n at pos s p _ _ w (v .0 .0) (r .0) .agrees)
+      ∙ records-agree xs (n + 1) (at + length p + 32) (pos + 12) rest rest₂ (v .1) (omega arith) e (w .next) (r .1)
+  records-agree (gap ∷ xs) n at pos rest rest₂ v g e d d₂ = records-agree xs (n + 1) at pos rest rest₂ v (omega arith) e d d₂
+
+  -- ---- the picture of a place
+  pub record Placed (pos : ℕ) (w : Picture) : Type 0 where
+    pub entry : entryAt f pos ≡ entryOf (w .shot) (w .offset) (length (w .picture))
+    pub opens : OpensTo pos (w .stamp) (w .picture) (recordBytes key (burstNumberIn f) (w .shot) (w .offset) (w .stamp) (w .picture))
+
+  pub placed : (xs : List Shot) (n at pos place : ℕ) (rest rest₂ : Bytes) (w : Picture) → Valid xs → n + length xs ≤ taken + 1 → end ≡ usedBy at xs
+      → drop pos f ≡ index n at xs ++ rest → drop at f ≡ records key (burstNumberIn f) n at xs ++ rest₂ → pictureAt n at xs place ≡ some w → Placed (pos + 12 * place) w
+  placed [] n at pos place rest rest₂ w v g e d d₂ h = let z : _≡_ {A = ℕ} 0 1 = cc in absurd (omega arith)
+  placed (kept s p ∷ xs) n at pos zero rest rest₂ w v g e d d₂ h =
+      let y = first-entry s p xs n at pos rest v g e d in
+      let r = first-record s p xs n at rest₂ (v .0 .0) d₂ in
+      subst (λ (x : Picture). Placed (pos + 12 * 0) x) (Option·some-injective _ _ h)
+      (subst (λ (k : ℕ). Placed k (record { shot = n; stamp = s; picture = p; offset = at })) (let q : pos ≡ pos + 12 * 0 = omega arith in q)
+      (record { entry = y .is; opens = opens-to n at pos s p _ _ y (v .0 .0) (r .0) }))
+  placed (kept s p ∷ xs) n at pos (suc place) rest rest₂ w v g e d d₂ h =
+      let y = first-entry s p xs n at pos rest v g e d in
+      let r = first-record s p xs n at rest₂ (v .0 .0) d₂ in
+      subst (λ (k : ℕ). Placed k w) (let q₂ : pos + 12 + 12 * place ≡ pos + 12 * suc place = omega arith in q₂)
+      (placed xs (n + 1) (at + length p + 32) (pos + 12) place rest rest₂ w (v .1) (omega arith) e (y .next) (r .1) h)
+  placed (gap ∷ xs) n at pos place rest rest₂ w v g e d d₂ h = placed xs (n + 1) at pos place rest rest₂ w v (omega arith) e d d₂ h
+
+-- ---- places and shots
+pub every : (xs : List Shot) (n at place : ℕ) → place < pictures xs → (w : Picture) × (pictureAt n at xs place ≡ some w)
+every [] n at place h = absurd (omega arith)
+every (kept s p ∷ xs) n at zero h = (record { shot = n; stamp = s; picture = p; offset = at }, refl)
+every (kept s p ∷ xs) n at (suc place) h = every xs (n + 1) (at + length p + 32) place (omega arith)
+every (gap ∷ xs) n at place h = every xs (n + 1) at place h
+
+pub below : (xs : List Shot) (n at place : ℕ) (w : Picture) → pictureAt n at xs place ≡ some w → place < pictures xs
+below [] n at place w h = let z : _≡_ {A = ℕ} 0 1 = cc in absurd (omega arith)
+below (kept s p ∷ xs) n at zero w h = omega arith
+below (kept s p ∷ xs) n at (suc place) w h = let g = below xs (n + 1) (at + length p + 32) place w h in omega arith
+below (gap ∷ xs) n at place w h = below xs (n + 1) at place w h
+
+-- ---- the header, where it stands
+pub record HeaderIn (f rest : Bytes) (t k d n u : ℕ) : Type 0 where
+  pub edition : editionIn f ≡ 1
+  pub taken : takenIn f ≡ t
+  pub kept : keptIn f ≡ k
+  pub dropped : droppedIn f ≡ d
+  pub burst : burstNumberIn f ≡ n
+  pub pictures : pictureOffsetIn f ≡ 32
+  pub index : indexOffsetIn f ≡ u
+  pub closing : closingOffsetIn f ≡ u + 12 * k
+  pub total : totalIn f ≡ u + 12 * k + 32
+  pub header : take 32 f ≡ headerBytes edition1 t k d n u
+  pub next : drop 32 f ≡ rest
+
+pub header-in : (f rest : Bytes) (t k d n u : ℕ) → t < 65536 → k < 65536 → d < 65536 → n < 18446744073709551616 → u + 12 * k + 32 < 4294967296
+    → f ≡ headerBytes edition1 t k d n u ++ rest → HeaderIn f rest t k d n u
+unfolding leAt headerBytes
+header-in f rest t k d n u ht hk hd hn hu e = record {
+  edition = ap (λ (l : Bytes). unle (take 2 l)) e;
+  taken = ap (λ (l : Bytes). unle (take 2 (drop 2 l))) e ∙ unle-2 t ht;
+  kept = ap (λ (l : Bytes). unle (take 2 (drop 4 l))) e ∙ unle-2 k hk;
+  dropped = ap (λ (l : Bytes). unle (take 2 (drop 6 l))) e ∙ unle-2 d hd;
+  burst = ap (λ (l : Bytes). unle (take 8 (drop 8 l))) e ∙ unle-8 n hn;
+  pictures = ap (λ (l : Bytes). unle (take 4 (drop 16 l))) e;
+  index = ap (λ (l : Bytes). unle (take 4 (drop 20 l))) e ∙ unle-4 u (omega arith);
+  closing = ap (λ (l : Bytes). unle (take 4 (drop 24 l))) e ∙ unle-4 (u + 12 * k) (omega arith);
+  total = ap (λ (l : Bytes). unle (take 4 (drop 28 l))) e ∙ unle-4 (u + 12 * k + 32) hu;
+  header = ap (take 32) e;
+  next = ap (drop 32) e;
+}

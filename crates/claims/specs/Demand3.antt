@@ -1,0 +1,174 @@
+-- Demand 3, over whole lists of calls (01, "Recorder", "Reader"): a begin, then keep, drop and close in any order, refused ones among them.
+--   agrees      numbers, shot numbers and totals equal those of the plain burst, and after an accepted close the front of the buffer is its file
+--   answered    an accepted close is one that was answered 0
+--   one-burst   no file belongs to two bursts under its key
+--   accepts     the reader accepts exactly the files of such lists
+--   gives-back  it then gives back burst number, site mark and the list of shots, with taken = kept + dropped
+--   reads       and of every accepted file, what was read back makes that file again
+--   withholds   otherwise it releases no picture byte
+-- The cipher is ICEPOLE-128, as in the definitions of record and closing seal. Assumes nothing.
+use mathlib.Core.Bool.{Bool, true, false, _&&_}
+use mathlib.Core.List.{List, [], _∷_, _++_}
+use mathlib.Core.Logic.{_↔_, _⊎_}
+use mathlib.Core.Option.{Option, some, none}
+use mathlib.Core.Path.{_≡_}
+use Prim.Native.Nat.{ℕ, zero, suc, _+_, _^_, _≤_, _<_}
+use lib.Dec.{eqb}
+use lib.ListN.{length, take, replicate}
+use Rattle.bytes_le.specs.Bytes.{Bytes, AllBytes, putBytes}
+use Rattle.icepole.specs.Sealing.{pick}
+use Rattle.burst.specs.Layout.{edition1, maxPicture, Identity, recordBytes}
+use Rattle.burst.specs.Numbers.{usedAfter}
+use Rattle.burst.specs.Plain.{Shot, kept, gap, pictures, gaps, Plain, fileOf, Call, keepShot, dropShot, closeBurst, CallList, Answer, plainOf, plainAnswers}
+use Rattle.trace.specs.Agreement.{Reached, Agreement}
+use Rattle.reader.specs.declared.Checked.{Checked}
+use Rattle.reader.specs.declared.Fetched.{Fetched}
+use Rattle.reader.specs.Reader.{checkAnswer, fetchAnswer, fetchOutput, recordNumber, recordBytesIn, notFetched}
+
+-- ---- an accepted close: one of the list's closes was answered 0
+abbrev pub CloseAnswered : List Call → List Answer → Type 0
+CloseAnswered [] answers = ⊥
+CloseAnswered (c ∷ cs) [] = ⊥
+CloseAnswered (keepShot s p ∷ cs) (a ∷ answers) = CloseAnswered cs answers
+CloseAnswered (dropShot ∷ cs) (a ∷ answers) = CloseAnswered cs answers
+CloseAnswered (closeBurst ∷ cs) (a ∷ answers) = (a .number ≡ 0) ⊎ CloseAnswered cs answers
+
+abbrev pub rest : List Answer → List Answer
+rest [] = []
+rest (a ∷ answers) = answers
+
+abbrev pub Answered : Type 0
+Answered = (l : CallList) → Reached l ↔ CloseAnswered (l .calls) (rest (plainAnswers edition1 l))
+
+-- ---- no file belongs to two bursts under its key
+pub record SameBurst (p p′ : Plain) : Type 0 where
+  pub burstNumber : p .identity .burstNumber ≡ p′ .identity .burstNumber
+  pub siteMark : p .identity .siteMark ≡ p′ .identity .siteMark
+  pub shots : p .shots ≡ p′ .shots
+
+-- a burst number has eight bytes
+abbrev pub Numbered : CallList → Type 0
+Numbered l = l .identity .burstNumber < 2 ^ 64
+
+abbrev pub OneBurst : Type 0
+OneBurst = (l l′ : CallList) → Numbered l → Numbered l′ → Reached l → Reached l′ → l .key ≡ l′ .key
+    → fileOf edition1 (plainOf edition1 l) ≡ fileOf edition1 (plainOf edition1 l′) → SameBurst (plainOf edition1 l) (plainOf edition1 l′)
+
+-- ---- the reader accepts exactly the files of such lists
+-- what the types of the calls say of their arguments
+abbrev pub TypedCalls : List Call → Type 0
+TypedCalls [] = Unit {0}
+TypedCalls (keepShot s p ∷ cs) = (AllBytes s × AllBytes p) × TypedCalls cs
+TypedCalls (dropShot ∷ cs) = TypedCalls cs
+TypedCalls (closeBurst ∷ cs) = TypedCalls cs
+
+pub record Typed (l : CallList) : Type 0 where
+  pub key : AllBytes (l .key)
+  pub burstNumber : Numbered l
+  pub siteMark : AllBytes (l .identity .siteMark)
+  pub buffer : l .bufferLength < 2 ^ 63
+  pub calls : TypedCalls (l .calls)
+
+-- f is the file of some such list under the key
+pub record FileOf (key f : Bytes) : Type 0 where
+  pub list : CallList
+  pub typed : Typed list
+  pub keyed : list .key ≡ key
+  pub reached : Reached list
+  pub file : fileOf edition1 (plainOf edition1 list) ≡ f
+
+abbrev pub Accepts : Type 0
+Accepts = (key f : Bytes) → AllBytes key → AllBytes f → (checkAnswer key f .refusal ≡ 0) ↔ FileOf key f
+
+-- ---- and gives back the list
+-- the picture of a place, counted from 0, of shots the first of which is shot number n; its record stands at an offset
+pub record Picture : Type 0 where
+  pub shot : ℕ
+  pub stamp : Bytes
+  pub picture : Bytes
+  pub offset : ℕ
+
+abbrev pub pictureAt : (n offset : ℕ) → List Shot → ℕ → Option Picture
+pictureAt n offset [] place = none
+pictureAt n offset (gap ∷ xs) place = pictureAt (n + 1) offset xs place
+pictureAt n offset (kept s p ∷ xs) zero = some (record { shot = n; stamp = s; picture = p; offset = offset })
+pictureAt n offset (kept s p ∷ xs) (suc place) = pictureAt (n + 1) (usedAfter offset (length p)) xs place
+
+-- the list of shots from the answers of check and fetch alone: shot number n is what the fetch at the next place gives if that is shot n, else a gap
+unfoldable pub whole : Bytes
+whole = replicate maxPicture 0
+
+module _ (key f : Bytes) where
+  abbrev pub readFrom : (left n place : ℕ) → List Shot
+  readFrom zero n place = []
+  readFrom (suc left) n place =
+      pick (eqb (fetchAnswer key f place whole .refusal) 0 && eqb (fetchAnswer key f place whole .shot .0) n)
+      (kept (fetchAnswer key f place whole .stamp) (take (fetchAnswer key f place whole .length) (fetchOutput key f place whole)) ∷ readFrom left (n + 1) (place + 1))
+      (gap ∷ readFrom left (n + 1) place)
+
+  unfoldable pub readShots : List Shot
+  readShots = readFrom (checkAnswer key f .taken) 1 0
+
+pub record GivenBack (key f : Bytes) (p : Plain) : Type 0 where
+  pub checked : checkAnswer key f ≡ record {
+    refusal = 0;
+    mark = 0;
+    «burst_number» = p .identity .burstNumber;
+    «site_mark» = p .identity .siteMark;
+    taken = length (p .shots);
+    kept = pictures (p .shots);
+    dropped = gaps (p .shots);
+  }
+  pub counts : length (p .shots) ≡ pictures (p .shots) + gaps (p .shots)
+  -- at every place below kept, into an output that holds the picture
+  pub every : (place : ℕ) → place < pictures (p .shots) → (w : Picture) × (pictureAt 1 (edition1 .headerLength) (p .shots) place ≡ some w)
+  pub fetched : (place : ℕ) (out : Bytes) (w : Picture) → pictureAt 1 (edition1 .headerLength) (p .shots) place ≡ some w → length (w .picture) ≤ length out
+      → (fetchAnswer key f place out ≡ record { refusal = 0; mark = 0; shot = record { 0 = w .shot }; stamp = w .stamp; length = length (w .picture) })
+      × (fetchOutput key f place out ≡ putBytes out 0 (w .picture))
+  -- the sealed record
+  pub sealed : (place : ℕ) (w : Picture) → pictureAt 1 (edition1 .headerLength) (p .shots) place ≡ some w
+      → recordBytesIn key f place ≡ recordBytes key (p .identity .burstNumber) (w .shot) (w .offset) (w .stamp) (w .picture)
+  pub shots : readShots key f ≡ p .shots
+
+abbrev pub GivesBack : Type 0
+GivesBack = (l : CallList) → Numbered l → Reached l → GivenBack (l .key) (fileOf edition1 (plainOf edition1 l)) (plainOf edition1 l)
+
+-- ---- of every accepted file
+abbrev pub burstIn : Bytes → Bytes → Plain
+burstIn key f = record {
+  key = key;
+  identity = record { burstNumber = checkAnswer key f .«burst_number»; siteMark = checkAnswer key f .«site_mark» };
+  shots = readShots key f;
+  closed = true;
+}
+
+pub record ReadBack (key f : Bytes) : Type 0 where
+  pub counts : checkAnswer key f .taken ≡ checkAnswer key f .kept + checkAnswer key f .dropped
+  pub file : fileOf edition1 (burstIn key f) ≡ f
+
+abbrev pub Reads : Type 0
+Reads = (key f : Bytes) → AllBytes key → AllBytes f → checkAnswer key f .refusal ≡ 0 → ReadBack key f
+
+-- ---- otherwise no picture byte is released
+pub record Withheld (key f : Bytes) (place : ℕ) (out : Bytes) : Type 0 where
+  -- a fetch that is refused, with whatever number, leaves the output and answers zeros
+  pub fetch : (fetchAnswer key f place out .refusal ≡ 0 → ⊥)
+      → (fetchOutput key f place out ≡ out)
+      × (fetchAnswer key f place out ≡ notFetched (fetchAnswer key f place out .refusal) (fetchAnswer key f place out .mark))
+  -- where check refuses, fetch and record answer check's number and mark, and the part is empty
+  pub check : (checkAnswer key f .refusal ≡ 0 → ⊥)
+      → (fetchAnswer key f place out ≡ notFetched (checkAnswer key f .refusal) (checkAnswer key f .mark))
+      × (recordNumber key f place ≡ checkAnswer key f .refusal)
+      × (recordBytesIn key f place ≡ [])
+
+abbrev pub Withholds : Type 0
+Withholds = (key f : Bytes) (place : ℕ) (out : Bytes) → Withheld key f place out
+
+pub record Demand3 : Type 0 where
+  pub agrees : Agreement
+  pub answered : Answered
+  pub one-burst : OneBurst
+  pub accepts : Accepts
+  pub gives-back : GivesBack
+  pub reads : Reads
+  pub withholds : Withholds

@@ -1,0 +1,247 @@
+-- The reader's answers from plain facts, and what number 0 tells.
+-- Assumes nothing.
+use mathlib.Core.Bool.{Bool, true, false, not}
+use mathlib.Core.List.{List, [], _∷_}
+use mathlib.Core.Option.{Option, some, none}
+use mathlib.Core.Path.{_≡_, refl, sym, ap, ap₂, _∙_}
+use Prim.Native.Nat.{ℕ, zero, suc, _+_, _*_, _≤_, _<_}
+use native.Mathlib.Omega.{arith}
+use borrow.Author.Tests.{le-leb, lt-leb, eq-eqb, ne-eqb, lt-ltb, le-ltb, leb-false, ltb-false, eqb-true, not-false}
+use lib.Dec.{eqb, leb, ltb}
+use lib.ListN.{length, replicate}
+use Rattle.bytes_le.specs.Bytes.{Bytes, putBytes}
+use Rattle.icepole.specs.Sealing.{pick}
+use Rattle.icepole.proofs.Numbers.{passed}
+use Rattle.burst.specs.Layout.{edition1}
+use Rattle.reader.specs.declared.Checked.{Checked}
+use Rattle.reader.specs.declared.Fetched.{Fetched}
+use Rattle.reader.specs.declared.Header.{Header}
+use Rattle.reader.specs.declared.Located.{Located}
+use Rattle.reader.specs.Front.{headerIn, takenIn, keptIn, droppedIn, burstNumberIn, indexOffsetIn, entryAt, positionOf, frontRules}
+use Rattle.reader.specs.Reader.{closingPart, recordPart, recordParts, agrees, secretIn, messageIn, sealedIn, firstDiffering, differing, some?, shotIn, notChecked, notFetched, checkNumber, checkMark, checkAnswer, recordNumber, locateAnswer, recordOffset, recordBytesIn, fetchNumber, fetchAnswer, fetchOutput}
+use Rattle.reader.proofs.Rules.{Front, front, InRange, in-range-at}
+use Rattle.reader.proofs.Parts.{first-agrees, all-agree}
+
+-- ---- check
+module _ (key f : Bytes) where
+  abbrev Records : Option ℕ
+  Records = firstDiffering key f (recordParts (keptIn f) (indexOffsetIn f) f)
+
+  -- a number with its mark
+  abbrev Refuses : ℕ → ℕ → Type 0
+  Refuses num mark = (checkNumber key f ≡ num) × (checkMark key f ≡ mark)
+
+  pub check-not : (num mark : ℕ) → (num ≡ 0 → ⊥) → Refuses num mark → notChecked num mark ≡ checkAnswer key f
+  unfolding checkAnswer
+  check-not num mark h r = sym (simp (r .0, r .1, ne-eqb num 0 h))
+
+  pub check-1 : (length key ≡ 16 → ⊥) → notChecked 1 0 ≡ checkAnswer key f
+  unfolding checkNumber checkMark
+  check-1 h = check-not 1 0 (λ e. omega arith) (simp (ne-eqb (length key) 16 h), simp (ne-eqb (length key) 16 h))
+
+  module _ (hk : length key ≡ 16) where
+    pub check-12 : frontRules edition1 f ≡ false → notChecked 12 0 ≡ checkAnswer key f
+    unfolding checkNumber checkMark
+    check-12 h = check-not 12 0 (λ e. omega arith) (simp (eq-eqb (length key) 16 hk, h), simp (eq-eqb (length key) 16 hk, h))
+
+    module _ (hf : frontRules edition1 f ≡ true) where
+      by-differing : (shot : ℕ) → differing key f ≡ some shot → notChecked 7 shot ≡ checkAnswer key f
+      unfolding checkNumber checkMark
+      by-differing shot d =
+          check-not 7 shot (λ e. omega arith) (simp (eq-eqb (length key) 16 hk, hf, d), simp (eq-eqb (length key) 16 hk, hf, d))
+
+      pub check-closing : agrees key f (closingPart f) ≡ false → notChecked 7 0 ≡ checkAnswer key f
+      unfolding differing firstDiffering
+      check-closing h = by-differing 0 (simp h)
+
+      module _ (hc : agrees key f (closingPart f) ≡ true) where
+        all-records : differing key f ≡ Records
+        unfolding differing firstDiffering
+        all-records = simp hc
+
+        pub check-record : (shot : ℕ) → Records ≡ some shot → notChecked 7 shot ≡ checkAnswer key f
+        check-record shot h = by-differing shot (all-records ∙ h)
+
+        module _ (hr : Records ≡ none) where
+          pub check-zero : checkNumber key f ≡ 0
+          unfolding checkNumber
+          check-zero = simp (eq-eqb (length key) 16 hk, hf, all-records, hr)
+
+          pub check-0 : (h : Header) → h ≡ headerIn f → (site : Bytes) → site ≡ secretIn key f (closingPart f)
+              → record { refusal = 0; mark = 0; «burst_number» = h .«burst_number»; «site_mark» = site; taken = h .taken; kept = h .kept; dropped = h .dropped } ≡ checkAnswer key f
+          unfolding checkAnswer checkMark
+          check-0 h e site s =
+              ap₂ (λ (x : Header) (y : Bytes). let z : Checked = record { refusal = 0; mark = 0; «burst_number» = x .«burst_number»; «site_mark» = y; taken = x .taken; kept = x .kept; dropped = x .dropped } in z) e s
+              ∙ sym (simp check-zero)
+
+-- what check answers, field by field
+module _ (key f : Bytes) (c : Checked) (is : c ≡ checkAnswer key f) where
+  pub checked-number : c .refusal ≡ checkNumber key f
+  unfolding checkAnswer
+  checked-number = ap (λ (x : Checked). x .refusal) is
+
+  pub checked-mark : c .mark ≡ checkMark key f
+  unfolding checkAnswer
+  checked-mark = ap (λ (x : Checked). x .mark) is
+
+  module _ (z : c .refusal ≡ 0) where
+    zero-is : checkNumber key f ≡ 0
+    zero-is = sym checked-number ∙ z
+
+    pub checked-kept : c .kept ≡ keptIn f
+    unfolding checkAnswer
+    checked-kept = ap (λ (x : Checked). x .kept) is ∙ simp zero-is
+
+    pub checked-burst : c .«burst_number» ≡ burstNumberIn f
+    unfolding checkAnswer
+    checked-burst = ap (λ (x : Checked). x .«burst_number») is ∙ simp zero-is
+
+-- ---- what an accepted file obeys
+pub record Accepted (key f : Bytes) : Type 0 where
+  pub key16 : length key ≡ 16
+  pub front : Front f
+  pub closing : agrees key f (closingPart f) ≡ true
+  pub records : firstDiffering key f (recordParts (keptIn f) (indexOffsetIn f) f) ≡ none
+
+not-some : (o : Option ℕ) → some? o ≡ false → o ≡ none
+not-some none h = refl
+not-some (some x) h = let z : _≡_ {A = ℕ} 0 1 = cc in absurd (omega arith)
+
+pub accepted : (key f : Bytes) → checkNumber key f ≡ 0 → Accepted key f
+unfolding checkNumber differing
+accepted key f h =
+    let p₁ = passed (not (eqb (length key) 16)) _ _ h in
+    let p₁₂ = passed (not (frontRules edition1 f)) _ _ (p₁ .1) in
+    let p₇ = passed (some? (differing key f)) _ _ (p₁₂ .1) in
+    let d = first-agrees key f (closingPart f) (recordParts (keptIn f) (indexOffsetIn f) f) (not-some (differing key f) (p₇ .0)) in
+    record { key16 = eqb-true _ _ (not-false _ (p₁ .0)); front = front f (not-false _ (p₁₂ .0)); closing = d .0; records = d .1 }
+
+-- ---- a place
+pub record Found (key f : Bytes) (place : ℕ) : Type 0 where
+  pub zero : checkNumber key f ≡ 0
+  pub accepted : Accepted key f
+  pub below : place < keptIn f
+  pub range : InRange f (positionOf f place) (indexOffsetIn f)
+  pub agrees : agrees key f (recordPart f (positionOf f place)) ≡ true
+
+module _ (key f : Bytes) (place : ℕ) where
+  first-passed : (n rest : ℕ) → pick (not (eqb n 0)) n rest ≡ 0 → (n ≡ 0) × (rest ≡ 0)
+  first-passed zero rest h = (refl, h)
+  first-passed (suc n) rest h = let z : suc n ≡ 0 = simp (ne-eqb (suc n) 0 (λ i. omega arith)) at h in absurd (omega arith)
+
+  pub found : recordNumber key f place ≡ 0 → Found key f place
+  unfolding recordNumber
+  found h =
+      let p = first-passed (checkNumber key f) _ h in
+      let p₁₃ = passed (leb (keptIn f) place) _ _ (p .1) in
+      let a = accepted key f (p .0) in
+      let b : place < keptIn f = leb-false _ _ (p₁₃ .0) in
+      record {
+        zero = p .0;
+        accepted = a;
+        below = b;
+        range = in-range-at f (positionOf f place) place (a .front) b refl;
+        agrees = all-agree key f (keptIn f) (indexOffsetIn f) place (a .records) b;
+      }
+
+  -- locate
+  pub locate-check : (num mark : ℕ) → num ≡ checkNumber key f → mark ≡ checkMark key f → (num ≡ 0 → ⊥)
+      → record { refusal = num; mark = mark; «burst_number» = 0; position = 0 } ≡ locateAnswer key f place
+  unfolding locateAnswer recordNumber
+  locate-check num mark e m h = sym (simp (sym e, sym m, ne-eqb num 0 h))
+
+  module _ (hz : checkNumber key f ≡ 0) where
+    mark-0 : checkMark key f ≡ 0
+    unfolding checkMark
+    mark-0 = simp hz
+
+    pub locate-13 : keptIn f ≤ place → record { refusal = 13; mark = 0; «burst_number» = 0; position = 0 } ≡ locateAnswer key f place
+    unfolding locateAnswer recordNumber
+    locate-13 h = sym (simp (hz, mark-0, le-leb (keptIn f) place h))
+
+    pub record-zero : place < keptIn f → recordNumber key f place ≡ 0
+    unfolding recordNumber
+    record-zero h = simp (hz, lt-leb (keptIn f) place h)
+
+    pub locate-0 : place < keptIn f → (burst position : ℕ) → burst ≡ burstNumberIn f → position ≡ positionOf f place
+        → record { refusal = 0; mark = 0; «burst_number» = burst; position = position } ≡ locateAnswer key f place
+    unfolding locateAnswer
+    locate-0 h burst position e₁ e₂ =
+        ap₂ (λ (b p : ℕ). let z : Located = record { refusal = 0; mark = 0; «burst_number» = b; position = p } in z) e₁ e₂
+        ∙ sym (simp (mark-0, record-zero h))
+
+  -- what locate answers, field by field
+  module _ (l : Located) (is : l ≡ locateAnswer key f place) where
+    pub located-number : l .refusal ≡ recordNumber key f place
+    unfolding locateAnswer
+    located-number = ap (λ (x : Located). x .refusal) is
+
+    pub located-mark : l .mark ≡ checkMark key f
+    unfolding locateAnswer
+    located-mark = ap (λ (x : Located). x .mark) is
+
+    module _ (z : l .refusal ≡ 0) where
+      none-refused : recordNumber key f place ≡ 0
+      none-refused = sym located-number ∙ z
+
+      pub located-found : Found key f place
+      located-found = found none-refused
+
+      pub located-burst : l .«burst_number» ≡ burstNumberIn f
+      unfolding locateAnswer
+      located-burst = ap (λ (x : Located). x .«burst_number») is ∙ simp none-refused
+
+      pub located-position : l .position ≡ positionOf f place
+      unfolding locateAnswer
+      located-position = ap (λ (x : Located). x .position) is ∙ simp none-refused
+
+  -- record
+  pub record-refused : (recordNumber key f place ≡ 0 → ⊥) → ([] ≡ recordBytesIn key f place) × (0 ≡ recordOffset key f place)
+  unfolding recordBytesIn recordOffset
+  record-refused h = (sym (simp (ne-eqb (recordNumber key f place) 0 h)), sym (simp (ne-eqb (recordNumber key f place) 0 h)))
+
+  pub record-done : recordNumber key f place ≡ 0
+      → (sealedIn key f (recordPart f (positionOf f place)) ≡ recordBytesIn key f place) × (entryAt f (positionOf f place) .offset ≡ recordOffset key f place)
+  unfolding recordBytesIn recordOffset
+  record-done h = (sym (simp h), sym (simp h))
+
+  -- fetch
+  module _ (out : Bytes) where
+    beyond : (a b : Bool) (n rest num : ℕ) → pick a n (pick b 13 0) ≡ suc num → pick a n (pick b 13 rest) ≡ suc num
+    beyond true b n rest num h = h
+    beyond false true n rest num h = h
+    beyond false false n rest num h = absurd (omega arith)
+
+    fetch-stands : (num : ℕ) → recordNumber key f place ≡ suc num → fetchNumber key f place out ≡ suc num
+    unfolding recordNumber fetchNumber
+    fetch-stands num h = beyond (not (eqb (checkNumber key f) 0)) (leb (keptIn f) place) (checkNumber key f) _ num h
+
+    pub fetch-not : (num mark : ℕ) → fetchNumber key f place out ≡ suc num → checkMark key f ≡ mark
+        → (notFetched (suc num) mark ≡ fetchAnswer key f place out) × (out ≡ fetchOutput key f place out)
+    unfolding fetchAnswer fetchOutput
+    fetch-not num mark e m =
+        let w = ne-eqb (suc num) 0 (λ i. omega arith) in
+        (sym (simp (e, m, w)), sym (simp (e, w)))
+
+    pub fetch-refused : (num mark : ℕ) → num ≡ recordNumber key f place → mark ≡ checkMark key f → (num ≡ 0 → ⊥)
+        → (notFetched num mark ≡ fetchAnswer key f place out) × (out ≡ fetchOutput key f place out)
+    fetch-refused zero mark e m h = absurd (h refl)
+    fetch-refused (suc num) mark e m h = fetch-not num mark (fetch-stands num (sym e)) (sym m)
+
+    module _ (w : Found key f place) where
+      decides : (b : Bool) → ltb (length out) (entryAt f (positionOf f place) .length) ≡ b → fetchNumber key f place out ≡ pick b 5 0
+      unfolding fetchNumber
+      decides b h = simp (w .zero, lt-leb (keptIn f) place (w .below), h)
+
+      pub fetch-5 : length out < entryAt f (positionOf f place) .length
+          → (notFetched 5 0 ≡ fetchAnswer key f place out) × (out ≡ fetchOutput key f place out)
+      fetch-5 h = fetch-not 4 0 (decides true (lt-ltb (length out) (entryAt f (positionOf f place) .length) h)) (mark-0 (w .zero))
+
+      pub fetch-zero : entryAt f (positionOf f place) .length ≤ length out → fetchNumber key f place out ≡ 0
+      fetch-zero h = decides false (le-ltb (length out) (entryAt f (positionOf f place) .length) h)
+
+      pub fetch-0 : entryAt f (positionOf f place) .length ≤ length out
+          → (record { refusal = 0; mark = 0; shot = entryAt f (positionOf f place) .shot; stamp = secretIn key f (recordPart f (positionOf f place)); length = entryAt f (positionOf f place) .length } ≡ fetchAnswer key f place out)
+          × (putBytes out 0 (messageIn key f (recordPart f (positionOf f place))) ≡ fetchOutput key f place out)
+      unfolding fetchAnswer fetchOutput
+      fetch-0 h = (sym (simp (fetch-zero h, mark-0 (w .zero))), sym (simp (fetch-zero h)))

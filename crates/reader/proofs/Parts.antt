@@ -1,0 +1,46 @@
+-- The verdict on sealed parts, turn by turn, and at a place.
+-- Assumes nothing.
+use mathlib.Core.Bool.{Bool, true, false}
+use mathlib.Core.List.{List, [], _∷_}
+use mathlib.Core.Option.{Option, some, none}
+use mathlib.Core.Path.{_≡_, refl, sym, ap, _∙_}
+use Prim.Native.Nat.{ℕ, zero, suc, _+_, _*_, _≤_, _<_}
+use native.Mathlib.Omega.{arith}
+use Rattle.bytes_le.specs.Bytes.{Bytes}
+use Rattle.icepole.specs.Sealing.{pick}
+use Rattle.reader.specs.Reader.{Part, recordPart, recordParts, agrees, firstDiffering}
+
+module _ (key f : Bytes) where
+  pub parts-end : (position : ℕ) → firstDiffering key f (recordParts 0 position f) ≡ none
+  unfolding firstDiffering recordParts
+  parts-end position = refl
+
+  module _ (left position : ℕ) where
+    pub parts-next : agrees key f (recordPart f position) ≡ true
+        → firstDiffering key f (recordParts (suc left) position f) ≡ firstDiffering key f (recordParts left (position + 12) f)
+    unfolding firstDiffering recordParts
+    parts-next h = simp h
+
+    pub parts-differ : agrees key f (recordPart f position) ≡ false → firstDiffering key f (recordParts (suc left) position f) ≡ some (recordPart f position .shot)
+    unfolding firstDiffering recordParts
+    parts-differ h = simp h
+
+  passed : (b : Bool) (o : Option ℕ) (s : ℕ) → pick b o (some s) ≡ none → (b ≡ true) × (o ≡ none)
+  passed true o s h = (refl, h)
+  passed false o s h = let z : _≡_ {A = ℕ} 0 1 = cc in absurd (omega arith)
+
+  pub first-agrees : (p : Part) (ps : List Part) → firstDiffering key f (p ∷ ps) ≡ none → (agrees key f p ≡ true) × (firstDiffering key f ps ≡ none)
+  unfolding firstDiffering
+  first-agrees p ps h = passed (agrees key f p) (firstDiffering key f ps) (p .shot) h
+
+  -- every record agrees
+  pub all-agree : (n position j : ℕ) → firstDiffering key f (recordParts n position f) ≡ none → j < n → agrees key f (recordPart f (position + 12 * j)) ≡ true
+  unfolding recordParts
+  all-agree zero position j h g = absurd (omega arith)
+  all-agree (suc n) position zero h g =
+      let e : position ≡ position + 12 * 0 = omega arith in
+      ap (λ (i : ℕ). agrees key f (recordPart f i)) (sym e) ∙ first-agrees (recordPart f position) (recordParts n (position + 12) f) h .0
+  all-agree (suc n) position (suc j) h g =
+      let e : position + 12 + 12 * j ≡ position + 12 * suc j = omega arith in
+      ap (λ (i : ℕ). agrees key f (recordPart f i)) (sym e)
+      ∙ all-agree n (position + 12) j (first-agrees (recordPart f position) (recordParts n (position + 12) f) h .1) (omega arith)

@@ -1,0 +1,86 @@
+-- `reader::fetch` meets its contract.
+-- Assumes nothing.
+use mathlib.Core.Path.{_≡_, sym, ap, subst, _∙_}
+use Prim.Native.Nat.{ℕ, _+_, _*_}
+use native.Mathlib.Omega.{arith}
+use borrow.Author.Needs.{needs}
+use Rattle.bytes_le.specs.Bytes.{Bytes, putBytes}
+use Rattle.burst.specs.declared.Entry.{Entry}
+use Rattle.reader.specs.declared.Fetched.{Fetched}
+use Rattle.reader.specs.Front.{entryAt, positionOf}
+use Rattle.reader.specs.Reader.{recordPart, agrees, secretIn, messageIn}
+use Rattle.reader.proofs.Answers.{located-number, located-mark, located-found, located-burst, located-position, fetch-refused, fetch-5, fetch-0}
+use Rattle.reader.proofs.fetch.Statement.{statement}
+use Rattle.reader.proofs.fetch.Tie as tie
+
+returns : tie.Need-returns
+returns c =
+    let a = c .before .before .before .before .before .before .before .args in
+    let p = fetch-refused (a .key .now) (a .f .now) (a .place .0) (a .out .now) _ _ (located-number _ _ _ _ (c .before .before .before .locate .ensures)) (located-mark _ _ _ _ (c .before .before .before .locate .ensures)) (c .before .if1 .taken) in
+    (c .not-fetched .ensures ∙ p .0, p .1)
+
+entry-at-requires : tie.Need-entry-at-requires
+entry-at-requires c κs =
+    let w = located-found _ _ _ _ (c .before .before .locate .ensures) (c .if1 .left) in
+    let e = located-position _ _ _ _ (c .before .before .locate .ensures) (c .if1 .left) in
+    omega (arith, w .accepted .front, w .below, e)
+
+returns-2 : tie.Need-returns-2
+returns-2 c =
+    let a = c .before .before .before .before .before .before .before .before .before .before .args in
+    let w = located-found _ _ _ _ (c .before .before .before .before .before .before .locate .ensures) (c .before .before .before .before .if1 .left) in
+    let e = c .before .before .before .entry-at .ensures ∙ ap (entryAt (a .f .now)) (located-position _ _ _ _ (c .before .before .before .before .before .before .locate .ensures) (c .before .before .before .before .if1 .left)) in
+    let n = ap (λ (x : Entry). x .length) e in
+    let p = fetch-5 (a .key .now) (a .f .now) (a .place .0) (a .out .now) w (omega (arith, n, c .before .if2)) in
+    (c .not-fetched2 .ensures ∙ p .0, p .1)
+
+open-record-requires : tie.Need-open-record-requires
+open-record-requires c κs =
+    let a = c .before .before .before .before .before .before .before .before .before .before .args in
+    let w = located-found _ _ _ _ (c .before .before .before .before .before .before .locate .ensures) (c .before .before .before .before .if1 .left) in
+    let i = located-position _ _ _ _ (c .before .before .before .before .before .before .locate .ensures) (c .before .before .before .before .if1 .left) in
+    let e = c .before .before .before .entry-at .ensures ∙ ap (entryAt (a .f .now)) i in
+    let n = ap (λ (x : Entry). x .length) e in
+    let o = ap (λ (x : Entry). x .offset) e in
+    let g = w .accepted .front in (
+      w .accepted .key16,
+      located-burst _ _ _ _ (c .before .before .before .before .before .before .locate .ensures) (c .before .before .before .before .if1 .left),
+      c .before .before .before .entry-at .ensures,
+      ap (λ (p : ℕ). agrees (a .key .now) (a .f .now) (recordPart (a .f .now) p)) i ∙ w .agrees,
+      omega (arith, g, w .below, i),
+      omega (arith, g, w .range, n, o),
+      omega (arith, w .range, n),
+      omega (arith, n, c .before .if2),
+    )
+
+returns-3 : tie.Need-returns-3
+returns-3 c =
+    let a = c .before .before .before .before .before .before .before .before .before .before .before .before .before .args in
+    let k = a .key .now in
+    let f = a .f .now in
+    let w = located-found _ _ _ _ (c .before .before .before .before .before .before .before .before .before .locate .ensures) (c .before .before .before .before .before .before .before .if1 .left) in
+    let i = located-position _ _ _ _ (c .before .before .before .before .before .before .before .before .before .locate .ensures) (c .before .before .before .before .before .before .before .if1 .left) in
+    let e = c .before .before .before .before .before .before .entry-at .ensures ∙ ap (entryAt f) i in
+    let n = ap (λ (x : Entry). x .length) e in
+    let p = fetch-0 k f (a .place .0) (a .out .now) w (omega (arith, n, c .before .before .before .before .if2)) in (
+      c .before .before .open-record .ensures .0
+          ∙ ap (λ (x : Entry). let y : Fetched = record { refusal = 0; mark = 0; shot = x .shot; stamp = secretIn k f (recordPart f (c .before .before .before .before .before .before .before .before .before .locate .result .position)); length = x .length } in y) e
+          ∙ ap (λ (j : ℕ). let y : Fetched = record { refusal = 0; mark = 0; shot = entryAt f (positionOf f (a .place .0)) .shot; stamp = secretIn k f (recordPart f j); length = entryAt f (positionOf f (a .place .0)) .length } in y) i
+          ∙ p .0,
+      c .before .before .open-record .ensures .1 ∙ ap (λ (j : ℕ). putBytes (a .out .now) 0 (messageIn k f (recordPart f j))) i ∙ p .1,
+    )
+
+pub fetch-spec : {M : Type 1} → statement M
+fetch-spec =
+    tie.close
+    (tie.spec
+    (λ c κs. search needs)
+    (λ c κs. search needs)
+    returns
+    entry-at-requires
+    (λ c. search needs)
+    (λ c κs. search needs)
+    returns-2
+    open-record-requires
+    (λ c. search needs)
+    returns-3)

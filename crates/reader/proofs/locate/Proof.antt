@@ -1,0 +1,49 @@
+-- `reader::locate` meets its contract.
+-- Assumes nothing.
+use mathlib.Core.Path.{_≡_, sym, ap, _∙_}
+use Prim.Native.Nat.{ℕ, _+_, _*_}
+use native.Mathlib.Omega.{arith}
+use borrow.Author.Needs.{needs}
+use Rattle.reader.specs.declared.Header.{Header}
+use Rattle.reader.proofs.Answers.{accepted, checked-number, checked-mark, checked-kept, checked-burst, locate-check, locate-13, locate-0}
+use Rattle.reader.proofs.locate.Statement.{statement}
+use Rattle.reader.proofs.locate.Tie as tie
+
+returns : tie.Need-returns
+returns c =
+    let a = c .before .before .before .before .before .args in
+    locate-check (a .key .now) (a .f .now) (a .place .0) _ _ (checked-number _ _ _ (c .before .before .check .ensures)) (checked-mark _ _ _ (c .before .before .check .ensures)) (c .if1 .taken)
+
+returns-2 : tie.Need-returns-2
+returns-2 c =
+    let a = c .before .before .before .before .before .before .before .before .args in
+    let z = sym (checked-number _ _ _ (c .before .before .before .before .before .check .ensures)) ∙ c .before .before .before .if1 .left in
+    let k = checked-kept _ _ _ (c .before .before .before .before .before .check .ensures) (c .before .before .before .if1 .left) in
+    locate-13 (a .key .now) (a .f .now) (a .place .0) z (omega (arith, k, c .if2))
+
+header-in-requires : tie.Need-header-in-requires
+header-in-requires c κs =
+    let w = accepted _ _ (sym (checked-number _ _ _ (c .before .before .before .before .before .check .ensures)) ∙ c .before .before .before .if1 .left) .front in
+    omega (arith, w)
+
+returns-3 : tie.Need-returns-3
+returns-3 c =
+    let a = c .before .before .before .before .before .before .before .before .before .before .before .args in
+    let z = sym (checked-number _ _ _ (c .before .before .before .before .before .before .before .before .check .ensures)) ∙ c .before .before .before .before .before .before .if1 .left in
+    let k = checked-kept _ _ _ (c .before .before .before .before .before .before .before .before .check .ensures) (c .before .before .before .before .before .before .if1 .left) in
+    locate-0 (a .key .now) (a .f .now) (a .place .0) z (omega (arith, k, c .before .before .before .if2)) _ _ (checked-burst _ _ _ (c .before .before .before .before .before .before .before .before .check .ensures) (c .before .before .before .before .before .before .if1 .left))
+    (ap (λ (x : Header). x .index + 12 * a .place .0) (c .before .before .header-in .ensures))
+
+pub locate-spec : {M : Type 1} → statement M
+locate-spec =
+    tie.close
+    (tie.spec
+    (λ c κs. search needs)
+    returns
+    returns-2
+    header-in-requires
+    (λ c. search needs)
+    (λ c. search needs)
+    (λ c. search needs)
+    (λ c. search needs)
+    returns-3)

@@ -1,0 +1,87 @@
+-- The front of a file (01, "The burst file"): what header and index say, and the front rules. No key is needed.
+-- Assumes nothing.
+use mathlib.Core.Bool.{Bool, _&&_}
+use mathlib.Core.List.{List, [], _∷_}
+use Prim.Native.Nat.{ℕ, zero, suc, _+_, _*_}
+use lib.Dec.{eqb, leb}
+use lib.ListN.{length}
+use Rattle.bytes_le.specs.Bytes.{Bytes, leAt}
+use Rattle.burst.specs.declared.Entry.{Entry}
+use Rattle.reader.specs.declared.Header.{Header}
+use Rattle.burst.specs.Layout.{Edition, entryLength, sealLength, closingOffset}
+use Rattle.burst.specs.Numbers.{totalFrom}
+use Rattle.burst.specs.Index.{indexRules}
+
+-- ---- the header's numbers
+abbrev pub editionIn : Bytes → ℕ
+editionIn f = leAt 2 f 0
+
+abbrev pub takenIn : Bytes → ℕ
+takenIn f = leAt 2 f 2
+
+abbrev pub keptIn : Bytes → ℕ
+keptIn f = leAt 2 f 4
+
+abbrev pub droppedIn : Bytes → ℕ
+droppedIn f = leAt 2 f 6
+
+abbrev pub burstNumberIn : Bytes → ℕ
+burstNumberIn f = leAt 8 f 8
+
+abbrev pub pictureOffsetIn : Bytes → ℕ
+pictureOffsetIn f = leAt 4 f 16
+
+abbrev pub indexOffsetIn : Bytes → ℕ
+indexOffsetIn f = leAt 4 f 20
+
+abbrev pub closingOffsetIn : Bytes → ℕ
+closingOffsetIn f = leAt 4 f 24
+
+abbrev pub totalIn : Bytes → ℕ
+totalIn f = leAt 4 f 28
+
+-- the same, as the code reads them
+abbrev pub headerIn : Bytes → Header
+headerIn f = record {
+  edition = editionIn f;
+  taken = takenIn f;
+  kept = keptIn f;
+  dropped = droppedIn f;
+  «burst_number» = burstNumberIn f;
+  pictures = pictureOffsetIn f;
+  index = indexOffsetIn f;
+  closing = closingOffsetIn f;
+  total = totalIn f;
+}
+
+-- ---- the index
+-- the entry that stands at a position of the file
+abbrev pub entryAt : Bytes → ℕ → Entry
+entryAt f position = record {
+  shot = record { 0 = leAt 2 f position };
+  zeros = leAt 2 f (position + 2);
+  offset = leAt 4 f (position + 4);
+  length = leAt 4 f (position + 8);
+}
+
+-- the position of the entry of a place
+abbrev pub positionOf : Bytes → ℕ → ℕ
+positionOf f place = indexOffsetIn f + entryLength * place
+
+-- n entries, from a position on
+unfoldable pub entriesAt : ℕ → ℕ → Bytes → List Entry
+entriesAt zero position f = []
+entriesAt (suc n) position f = entryAt f position ∷ entriesAt n (position + entryLength) f
+
+-- ---- the front rules. Sums are of numbers, so none wraps
+unfoldable pub frontRules : Edition → Bytes → Bool
+frontRules e f =
+    leb (totalFrom (e .headerLength) 0) (length f)
+    && (eqb (editionIn f) (e .number)
+    && (eqb (pictureOffsetIn f) (e .headerLength)
+    && (leb (takenIn f) (e .maxShots)
+    && (eqb (takenIn f) (keptIn f + droppedIn f)
+    && (eqb (closingOffsetIn f) (closingOffset (indexOffsetIn f) (keptIn f))
+    && (eqb (totalIn f) (closingOffsetIn f + sealLength)
+    && (eqb (totalIn f) (length f)
+    && indexRules 0 (e .headerLength) (takenIn f) (indexOffsetIn f) (entriesAt (keptIn f) (indexOffsetIn f) f))))))))

@@ -1,0 +1,167 @@
+-- The reader's calls (01, "Reader"): what check, fetch and record answer and leave, for good and bad calls.
+-- Assumes nothing.
+use mathlib.Core.Bool.{Bool, true, false, not}
+use mathlib.Core.List.{List, [], _∷_, _++_}
+use mathlib.Core.Option.{Option, some, none}
+use Prim.Native.Nat.{ℕ, zero, suc, _+_, _*_}
+use lib.Dec.{eqb, leb, ltb}
+use lib.ListN.{length, take, drop, replicate}
+use Rattle.bytes_le.specs.Bytes.{Bytes, putBytes}
+use Rattle.icepole.specs.declared.Variant.the-variants.{Icepole128}
+use Rattle.icepole.specs.Variants.{sizes}
+use Rattle.icepole.specs.Sealing.{pick, secretOf, messageOf}
+use Rattle.icepole.specs.Answers.{refusal, _when_, unless, tagAgrees}
+use Rattle.burst.specs.Layout.{edition1, entryLength, sealLength, closingOffset, nonceOf}
+use Rattle.reader.specs.declared.Checked.{Checked}
+use Rattle.reader.specs.declared.Fetched.{Fetched}
+use Rattle.reader.specs.declared.Located.{Located}
+use Rattle.reader.specs.Front.{takenIn, keptIn, droppedIn, burstNumberIn, indexOffsetIn, entryAt, positionOf, frontRules}
+
+-- ---- the sealed parts of a file
+-- the shot number, 0 for the closing seal; the associated data; where the part stands; and the length of its message
+pub record Part : Type 0 where
+  pub shot : ℕ
+  pub associated : Bytes
+  pub offset : ℕ
+  pub count : ℕ
+
+-- the closing seal covers header, then index
+abbrev pub closingPart : Bytes → Part
+closingPart f = record {
+  shot = 0;
+  associated = take (edition1 .headerLength) f ++ take (entryLength * keptIn f) (drop (indexOffsetIn f) f);
+  offset = closingOffset (indexOffsetIn f) (keptIn f);
+  count = 0;
+}
+
+-- the record of the entry at a position covers that entry
+abbrev pub recordPart : Bytes → ℕ → Part
+recordPart f position = record {
+  shot = entryAt f position .shot .0;
+  associated = take entryLength (drop position f);
+  offset = entryAt f position .offset;
+  count = entryAt f position .length;
+}
+
+unfoldable pub recordParts : ℕ → ℕ → Bytes → List Part
+recordParts zero position f = []
+recordParts (suc n) position f = recordPart f position ∷ recordParts n (position + entryLength) f
+
+module _ (key f : Bytes) where
+  abbrev pub sealedIn : Part → Bytes
+  sealedIn p = take (p .count + sealLength) (drop (p .offset) f)
+
+  unfoldable pub agrees : Part → Bool
+  agrees p = tagAgrees (sizes Icepole128) key (nonceOf (burstNumberIn f) (p .shot)) (p .associated) (sealedIn p)
+
+  unfoldable pub secretIn : Part → Bytes
+  secretIn p = secretOf (sizes Icepole128) key (nonceOf (burstNumberIn f) (p .shot)) (sealedIn p)
+
+  unfoldable pub messageIn : Part → Bytes
+  messageIn p = messageOf (sizes Icepole128) key (nonceOf (burstNumberIn f) (p .shot)) (p .associated) (sealedIn p)
+
+  -- the shot number of the first part whose tag differs
+  unfoldable pub firstDiffering : List Part → Option ℕ
+  firstDiffering [] = none
+  firstDiffering (p ∷ ps) = pick (agrees p) (firstDiffering ps) (some (p .shot))
+
+  -- the closing seal, then the records in order
+  unfoldable pub differing : Option ℕ
+  differing = firstDiffering (closingPart f ∷ recordParts (keptIn f) (indexOffsetIn f) f)
+
+-- with a refusal go zeros
+abbrev pub given : ℕ → ℕ → ℕ
+given num x = pick (eqb num 0) x 0
+
+abbrev pub given16 : ℕ → Bytes → Bytes
+given16 num bytes = pick (eqb num 0) bytes (replicate 16 0)
+
+abbrev pub some? : Option ℕ → Bool
+some? none = false
+some? (some shot) = true
+
+abbrev pub shotIn : Option ℕ → ℕ
+shotIn none = 0
+shotIn (some shot) = shot
+
+-- ---- what a refused call answers
+abbrev pub notChecked : ℕ → ℕ → Checked
+notChecked num mark = record {
+  refusal = num;
+  mark = mark;
+  «burst_number» = 0;
+  «site_mark» = replicate 16 0;
+  taken = 0;
+  kept = 0;
+  dropped = 0;
+}
+
+abbrev pub notFetched : ℕ → ℕ → Fetched
+notFetched num mark = record { refusal = num; mark = mark; shot = record { 0 = 0 }; stamp = replicate 16 0; length = 0 }
+
+-- ---- check
+module _ (key f : Bytes) where
+  unfoldable pub checkNumber : ℕ
+  checkNumber =
+      refusal
+      ((1 when not (eqb (length key) 16))
+      ∷ (12 when not (frontRules edition1 f))
+      ∷ (7 when some? (differing key f))
+      ∷ [])
+
+  -- 0 except under 7: then 0 for the closing seal, else the shot number
+  unfoldable pub checkMark : ℕ
+  checkMark = pick (eqb checkNumber 7) (shotIn (differing key f)) 0
+
+  unfoldable pub checkAnswer : Checked
+  checkAnswer = record {
+    refusal = checkNumber;
+    mark = checkMark;
+    «burst_number» = given checkNumber (burstNumberIn f);
+    «site_mark» = given16 checkNumber (secretIn key f (closingPart f));
+    taken = given checkNumber (takenIn f);
+    kept = given checkNumber (keptIn f);
+    dropped = given checkNumber (droppedIn f);
+  }
+
+-- ---- record and fetch, by place
+module _ (key f : Bytes) (place : ℕ) where
+  unfoldable pub recordNumber : ℕ
+  recordNumber = refusal ((checkNumber key f when not (eqb (checkNumber key f) 0)) ∷ (13 when leb (keptIn f) place) ∷ [])
+
+  -- where the entry of the place stands
+  unfoldable pub locateAnswer : Located
+  locateAnswer = record {
+    refusal = recordNumber;
+    mark = checkMark key f;
+    «burst_number» = given recordNumber (burstNumberIn f);
+    position = given recordNumber (positionOf f place);
+  }
+
+  -- the sealed record as that part of the file, empty where the call is refused, and its offset
+  unfoldable pub recordOffset : ℕ
+  recordOffset = given recordNumber (entryAt f (positionOf f place) .offset)
+
+  unfoldable pub recordBytesIn : Bytes
+  recordBytesIn = pick (eqb recordNumber 0) (sealedIn key f (recordPart f (positionOf f place))) []
+
+  module _ (out : Bytes) where
+    unfoldable pub fetchNumber : ℕ
+    fetchNumber =
+        refusal
+        ((checkNumber key f when not (eqb (checkNumber key f) 0))
+        ∷ (13 when leb (keptIn f) place)
+        ∷ (5 when ltb (length out) (entryAt f (positionOf f place) .length))
+        ∷ [])
+
+    unfoldable pub fetchAnswer : Fetched
+    fetchAnswer = record {
+      refusal = fetchNumber;
+      mark = checkMark key f;
+      shot = record { 0 = given fetchNumber (entryAt f (positionOf f place) .shot .0) };
+      stamp = given16 fetchNumber (secretIn key f (recordPart f (positionOf f place)));
+      length = given fetchNumber (entryAt f (positionOf f place) .length);
+    }
+
+    unfoldable pub fetchOutput : Bytes
+    fetchOutput = unless fetchNumber out (putBytes out 0 (messageIn key f (recordPart f (positionOf f place))))

@@ -1,0 +1,424 @@
+// The reader of bursts (01, "Reader"): check, fetch by place, and the sealed record of a place.
+use burst::EDITION;
+use burst::Entry;
+use burst::FRONT_BROKEN;
+use burst::HEADER_LENGTH;
+use burst::MAX_SHOTS;
+use burst::NO_SUCH_PLACE;
+use burst::Place;
+use burst::Shot;
+use icepole::KEY_LENGTH;
+use icepole::OUTPUT_TOO_SHORT;
+use icepole::Opened;
+use icepole::TAG_DIFFERS;
+use icepole::Variant;
+ghost use mathlib.Core.Path.{_≡_};
+ghost use mathlib.Core.Bool.{true};
+ghost use mathlib.Core.List.{_++_};
+ghost use Prim.Native.Nat.{_+_, _*_, _≤_, _<_};
+ghost use lib.ListN.{length, take, drop};
+ghost use Rattle.bytes_le.specs.Bytes.{putBytes};
+ghost use Rattle.icepole.specs.declared.Variant.the-variants.{Icepole128};
+ghost use Rattle.icepole.specs.Variants.{sizes};
+ghost use Rattle.icepole.specs.Sealing.{pick, secretOf};
+ghost use Rattle.icepole.specs.Answers.{tagAgrees, openedAnswer};
+ghost use Rattle.burst.specs.Layout.{edition1, nonceOf};
+ghost use Rattle.burst.specs.Index.{indexRules};
+ghost use Rattle.reader.specs.Front.{headerIn, keptIn, burstNumberIn, indexOffsetIn, entryAt, entriesAt, frontRules};
+ghost use Rattle.reader.specs.Reader.{closingPart, recordPart, recordParts, agrees, secretIn, messageIn, firstDiffering, notChecked, notFetched, checkMark, checkAnswer, locateAnswer, recordNumber, recordOffset, recordBytesIn, fetchAnswer, fetchOutput};
+ghost use Rattle.reader.specs.Verdicts.{verdictOf};
+
+// What check answers: a refusal number with its mark, or what the file says.
+pub struct Checked {
+    pub refusal: u32,
+    pub mark: u32,
+    pub burst_number: u64,
+    pub site_mark: [u8; 16],
+    pub taken: u16,
+    pub kept: u16,
+    pub dropped: u16,
+}
+
+// Where the entry of a place stands in the file.
+pub struct Located {
+    pub refusal: u32,
+    pub mark: u32,
+    pub burst_number: u64,
+    pub position: usize,
+}
+
+// What fetch answers.
+pub struct Fetched {
+    pub refusal: u32,
+    pub mark: u32,
+    pub shot: Shot,
+    pub stamp: [u8; 16],
+    pub length: u32,
+}
+
+// Whether the tags of some records agree, or the first shot whose tag differs.
+enum Verdict {
+    Agree,
+    Differs(u16),
+}
+
+// The entry that stands at a position of the file.
+pub fn entry_at(f: &[u8], position: usize) -> Entry
+    requires { ⌜ position + 12 ≤ length (now f) ⌝ }
+    ensures { λ e. ⌜ e ≡ entryAt (now (f .entry)) position ⌝ }
+{
+    let shot = bytes_le::load_le(f, position, 2);
+    let zeros = bytes_le::load_le(f, position + 2, 2);
+    let offset = bytes_le::load_le(f, position + 4, 4);
+    let length = bytes_le::load_le(f, position + 8, 4);
+    Entry {
+        shot: Shot(shot as u16),
+        zeros: zeros as u16,
+        offset: offset as u32,
+        length: length as u32,
+    }
+}
+
+// Whether the entries from a position on obey the index rules.
+fn index_ok(f: &[u8], count: usize, start: usize, taken: u16, end: u32) -> bool
+    requires { ⌜ (start + 12 * count ≤ length (now f)) × (count ≤ 60) ⌝ }
+    ensures { λ b. ⌜ b ≡ indexRules 0 32 taken end (entriesAt count start (now (f .entry))) ⌝ }
+{
+    let mut left = count;
+    let mut position = start;
+    let mut last: u16 = 0;
+    let mut offset = HEADER_LENGTH;
+    while 0 < left {
+        let e = entry_at(f, position);
+        if !burst::entry_ok(Shot(last), offset, Shot(taken), e) {
+            return false;
+        }
+        offset = offset + e.length + 32;
+        last = e.shot.0;
+        position = position + 12;
+        left = left - 1;
+    }
+    offset == end
+}
+
+// The header's numbers.
+pub struct Header {
+    pub edition: u16,
+    pub taken: u16,
+    pub kept: u16,
+    pub dropped: u16,
+    pub burst_number: u64,
+    pub pictures: u32,
+    pub index: u32,
+    pub closing: u32,
+    pub total: u32,
+}
+
+pub fn header_in(f: &[u8]) -> Header
+    requires { ⌜ 32 ≤ length (now f) ⌝ }
+    ensures { λ h. ⌜ h ≡ headerIn (now (f .entry)) ⌝ }
+{
+    let edition = bytes_le::load_le(f, 0, 2);
+    let taken = bytes_le::load_le(f, 2, 2);
+    let kept = bytes_le::load_le(f, 4, 2);
+    let dropped = bytes_le::load_le(f, 6, 2);
+    let burst_number = bytes_le::load_le(f, 8, 8);
+    let pictures = bytes_le::load_le(f, 16, 4);
+    let index = bytes_le::load_le(f, 20, 4);
+    let closing = bytes_le::load_le(f, 24, 4);
+    let total = bytes_le::load_le(f, 28, 4);
+    Header {
+        edition: edition as u16,
+        taken: taken as u16,
+        kept: kept as u16,
+        dropped: dropped as u16,
+        burst_number,
+        pictures: pictures as u32,
+        index: index as u32,
+        closing: closing as u32,
+        total: total as u32,
+    }
+}
+
+// The front rules. Sums are of wider numbers, so none wraps.
+pub fn front_ok(f: &[u8]) -> bool
+    ensures { λ b. ⌜ b ≡ frontRules edition1 (now (f .entry)) ⌝ }
+{
+    if f.len() < 64 {
+        return false;
+    }
+    let h = header_in(f);
+    if h.edition != EDITION {
+        return false;
+    }
+    if h.pictures != HEADER_LENGTH {
+        return false;
+    }
+    if h.taken > MAX_SHOTS {
+        return false;
+    }
+    let kept = h.kept as usize;
+    if h.taken as usize != kept + h.dropped as usize {
+        return false;
+    }
+    let index = h.index as usize;
+    let closing = h.closing as usize;
+    if closing != index + 12 * kept {
+        return false;
+    }
+    if h.total as usize != closing + 32 {
+        return false;
+    }
+    if h.total as usize != f.len() {
+        return false;
+    }
+    index_ok(f, kept, index, h.taken, h.index)
+}
+
+// Opens the sealed part of count + 32 bytes that stands at an offset of the file, without its message.
+fn verify_part(
+    key: &[u8],
+    f: &[u8],
+    nonce: &[u8],
+    first: &[u8],
+    second: &[u8],
+    offset: usize,
+    count: usize,
+) -> Opened
+    requires { ⌜ (length (now key) ≡ 16) × (length (now nonce) ≡ 16) × (length (now first) + length (now second) ≤ 752) × (count ≤ 1048576) × (offset + (count + 32) ≤ length (now f)) ⌝ }
+    ensures { λ r. ⌜ r ≡ openedAnswer
+        (pick (tagAgrees (sizes Icepole128) (now (key .entry)) (now (nonce .entry)) (now (first .entry) ++ now (second .entry)) (take (count + 32) (drop offset (now (f .entry))))) 0 7)
+        count
+        (secretOf (sizes Icepole128) (now (key .entry)) (now (nonce .entry)) (take (count + 32) (drop offset (now (f .entry))))) ⌝ }
+{
+    let end = offset + (count + 32);
+    icepole::verify(
+        Variant::Icepole128,
+        key,
+        nonce,
+        first,
+        second,
+        &f[offset..end],
+    )
+}
+
+// Whether the tag agrees of the record whose entry stands at a position.
+fn record_agrees(key: &[u8], f: &[u8], burst_number: u64, position: usize) -> bool
+    requires { ⌜ (length (now key) ≡ 16) × («burst_number» ≡ burstNumberIn (now f)) × (position + 12 ≤ length (now f)) × (entryAt (now f) position .length ≤ 1048576)
+        × (entryAt (now f) position .offset + (entryAt (now f) position .length + 32) ≤ length (now f)) ⌝ }
+    ensures { λ b. ⌜ b ≡ agrees (now (key .entry)) (now (f .entry)) (recordPart (now (f .entry)) position) ⌝ }
+{
+    let e = entry_at(f, position);
+    let next = position + 12;
+    let nonce = burst::nonce_of(burst_number, e.shot);
+    let none: [u8; 0] = [];
+    let got = verify_part(
+        key,
+        f,
+        &nonce,
+        &f[position..next],
+        &none,
+        e.offset as usize,
+        e.length as usize,
+    );
+    got.refusal == 0
+}
+
+// The verdict on the records of all entries, in order.
+fn verify_records(key: &[u8], f: &[u8], burst_number: u64, count: usize, start: usize) -> Verdict
+    requires { ⌜ (length (now key) ≡ 16) × (frontRules edition1 (now f) ≡ true) × («burst_number» ≡ burstNumberIn (now f)) × (count ≡ keptIn (now f)) × (start ≡ indexOffsetIn (now f)) ⌝ }
+    ensures { λ v. ⌜ v ≡ verdictOf (firstDiffering (now (key .entry)) (now (f .entry)) (recordParts count start (now (f .entry)))) ⌝ }
+{
+    let mut left = count;
+    let mut position = start;
+    while 0 < left {
+        if !record_agrees(key, f, burst_number, position) {
+            let e = entry_at(f, position);
+            return Verdict::Differs(e.shot.0);
+        }
+        position = position + 12;
+        left = left - 1;
+    }
+    Verdict::Agree
+}
+
+fn not_checked(refusal: u32, mark: u32) -> Checked
+    ensures { λ r. ⌜ r ≡ notChecked refusal mark ⌝ }
+{
+    Checked {
+        refusal,
+        mark,
+        burst_number: 0,
+        site_mark: [0u8; 16],
+        taken: 0,
+        kept: 0,
+        dropped: 0,
+    }
+}
+
+// Opens the closing seal: header, then index, are its associated data.
+fn verify_closing(key: &[u8], f: &[u8], h: Header) -> Opened
+    requires { ⌜ (length (now key) ≡ 16) × (frontRules edition1 (now f) ≡ true) × (h ≡ headerIn (now f)) ⌝ }
+    ensures { λ r. ⌜ r ≡ openedAnswer (pick (agrees (now (key .entry)) (now (f .entry)) (closingPart (now (f .entry)))) 0 7) 0 (secretIn (now (key .entry)) (now (f .entry)) (closingPart (now (f .entry)))) ⌝ }
+{
+    let start = h.index as usize;
+    let end = h.closing as usize;
+    let nonce = burst::nonce_of(h.burst_number, Shot(0));
+    verify_part(key, f, &nonce, &f[..32], &f[start..end], end, 0)
+}
+
+pub fn check(key: &[u8], f: &[u8]) -> Checked
+    ensures { λ r. ⌜ r ≡ checkAnswer (now (key .entry)) (now (f .entry)) ⌝ }
+{
+    if key.len() != 16 {
+        return not_checked(KEY_LENGTH, 0);
+    }
+    if !front_ok(f) {
+        return not_checked(FRONT_BROKEN, 0);
+    }
+    let h = header_in(f);
+    let closing = verify_closing(key, f, h);
+    if closing.refusal != 0 {
+        return not_checked(TAG_DIFFERS, 0);
+    }
+    let verdict = verify_records(key, f, h.burst_number, h.kept as usize, h.index as usize);
+    match verdict {
+        Verdict::Differs(shot) => not_checked(TAG_DIFFERS, shot as u32),
+        Verdict::Agree => {
+            let site_mark = closing.secret;
+            Checked {
+                refusal: 0,
+                mark: 0,
+                burst_number: h.burst_number,
+                site_mark,
+                taken: h.taken,
+                kept: h.kept,
+                dropped: h.dropped,
+            }
+        }
+    }
+}
+
+// Does all of check, and says where the entry of a place stands.
+pub fn locate(key: &[u8], f: &[u8], place: Place) -> Located
+    ensures { λ r. ⌜ r ≡ locateAnswer (now (key .entry)) (now (f .entry)) (place .0) ⌝ }
+{
+    let c = check(key, f);
+    if c.refusal != 0 {
+        return Located {
+            refusal: c.refusal,
+            mark: c.mark,
+            burst_number: 0,
+            position: 0,
+        };
+    }
+    if place.0 >= c.kept {
+        return Located {
+            refusal: NO_SUCH_PLACE,
+            mark: 0,
+            burst_number: 0,
+            position: 0,
+        };
+    }
+    let h = header_in(f);
+    Located {
+        refusal: 0,
+        mark: 0,
+        burst_number: c.burst_number,
+        position: h.index as usize + 12 * (place.0 as usize),
+    }
+}
+
+fn not_fetched(refusal: u32, mark: u32) -> Fetched
+    ensures { λ r. ⌜ r ≡ notFetched refusal mark ⌝ }
+{
+    Fetched {
+        refusal,
+        mark,
+        shot: Shot(0),
+        stamp: [0u8; 16],
+        length: 0,
+    }
+}
+
+// Opens the record of the entry e, which stands at a position of the file.
+fn open_record(
+    key: &[u8],
+    f: &[u8],
+    burst_number: u64,
+    position: usize,
+    e: Entry,
+    out: &mut [u8],
+) -> Fetched
+    requires { ⌜ (length (now key) ≡ 16) × («burst_number» ≡ burstNumberIn (now f)) × (e ≡ entryAt (now f) position) × (agrees (now key) (now f) (recordPart (now f) position) ≡ true)
+        × (position + 12 ≤ length (now f)) × (e .offset + (e .length + 32) ≤ length (now f)) × (e .length ≤ 1048576) × (e .length ≤ length (now out)) ⌝ }
+    ensures { λ r. ⌜
+        (r ≡ record { refusal = 0; mark = 0; shot = e .shot; stamp = secretIn (now (key .entry)) (now (f .entry)) (recordPart (now (f .entry)) position); length = e .length }) ×
+        (now (out .exit) ≡ putBytes (now (out .entry)) 0 (messageIn (now (key .entry)) (now (f .entry)) (recordPart (now (f .entry)) position))) ⌝ }
+{
+    let shot = e.shot;
+    let nonce = burst::nonce_of(burst_number, shot);
+    let next = position + 12;
+    let at = e.offset as usize;
+    let end = at + (e.length as usize + 32);
+    let none: [u8; 0] = [];
+    let got = icepole::open_message(
+        Variant::Icepole128,
+        key,
+        &nonce,
+        &f[position..next],
+        &none,
+        &f[at..end],
+        out,
+    );
+    let stamp = got.secret;
+    Fetched {
+        refusal: 0,
+        mark: 0,
+        shot,
+        stamp,
+        length: e.length,
+    }
+}
+
+pub fn fetch(key: &[u8], f: &[u8], place: Place, out: &mut [u8]) -> Fetched
+    ensures { λ r. ⌜
+        (r ≡ fetchAnswer (now (key .entry)) (now (f .entry)) (place .0) (now (out .entry))) ×
+        (now (out .exit) ≡ fetchOutput (now (key .entry)) (now (f .entry)) (place .0) (now (out .entry))) ⌝ }
+{
+    let l = locate(key, f, place);
+    if l.refusal != 0 {
+        return not_fetched(l.refusal, l.mark);
+    }
+    let e = entry_at(f, l.position);
+    if out.len() < e.length as usize {
+        return not_fetched(OUTPUT_TOO_SHORT, 0);
+    }
+    open_record(key, f, l.burst_number, l.position, e, out)
+}
+
+// The sealed record of a place, as that part of the file; empty where the call is refused.
+pub fn record<'a>(
+    f: &'a [u8],
+    key: &[u8],
+    place: Place,
+    refusal: &mut u32,
+    mark: &mut u32,
+) -> &'a [u8]
+    ensures { λ r. ⌜
+        (now r ≡ recordBytesIn (now (key .entry)) (now (f .entry)) (place .0)) ×
+        (r .ptr .0 ≡ f .entry .ptr .0) × (r .ptr .1 ≡ f .entry .ptr .1 + recordOffset (now (key .entry)) (now (f .entry)) (place .0)) ×
+        (now (refusal .exit) ≡ recordNumber (now (key .entry)) (now (f .entry)) (place .0)) ×
+        (now (mark .exit) ≡ checkMark (now (key .entry)) (now (f .entry))) ⌝ }
+{
+    let l = locate(key, f, place);
+    *refusal = l.refusal;
+    *mark = l.mark;
+    if l.refusal != 0 {
+        return &f[..0];
+    }
+    let e = entry_at(f, l.position);
+    let at = e.offset as usize;
+    let end = at + (e.length as usize + 32);
+    &f[at..end]
+}
