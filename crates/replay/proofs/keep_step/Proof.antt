@@ -1,0 +1,57 @@
+-- `replay::keep_step` meets its contract.
+-- Assumes nothing.
+use mathlib.Core.Path.{_≡_, refl, sym, _∙_}
+use Prim.Native.Nat.{_+_, _-_}
+use native.Mathlib.Omega.{arith}
+use borrow.Author.Needs.{needs}
+use Rattle.replay.proofs.Scripts.{cut-here, short-here, keep-here}
+use Rattle.replay.proofs.keep_step.Statement.{statement}
+use Rattle.replay.proofs.keep_step.Tie as tie
+
+returns : tie.Need-returns
+returns c =
+    let a = c .before .before .before .before .args in
+    let p = cut-here (a .r) (a .buffer .now) (a .script .now) (a .position) (c .before .before .before .before .pre .0) (c .before .before .before .before .pre .1) (omega arith) in
+    (c .stopped .ensures ∙ p .0, p .1)
+
+returns-2 : tie.Need-returns-2
+returns-2 c =
+    let a = c .before .before .before .before .before .before .before .args in
+    let p = short-here (a .r) (a .buffer .now) (a .script .now) (a .position) (c .before .before .before .before .before .before .before .pre .0) (c .before .before .before .before .before .before .before .pre .1) _ _ (c .before .before .before .load-le .ensures .0) (c .before .before .load-le2 .ensures .0) (omega arith) in
+    (c .stopped2 .ensures ∙ p .0, p .1)
+
+returns-3 : tie.Need-returns-3
+returns-3 c =
+    let a = c .before .before .before .before .before .before .before .before .before .before .before .before .before .before .before .args in
+    keep-here (a .r) (a .buffer .now) (a .script .now) (a .position) (c .before .before .before .before .before .before .before .before .before .before .before .before .before .before .before .pre .0) (c .before .before .before .before .before .before .before .before .before .before .before .before .before .before .before .pre .1) (c .before .before .before .before .before .before .before .before .before .before .before .load-le .result) (c .before .before .before .before .before .before .before .before .before .before .load-le2 .result) (c .before .before .before .before .before .before .before .before .before .before .before .load-le .ensures .0) (c .before .before .before .before .before .before .before .before .before .before .load-le2 .ensures .0) (omega (arith, c .before .before .before .before .before .before .before .before .before .if2))
+    (a .position + 6 + c .before .before .before .before .before .before .before .before .before .before .before .load-le .result - (a .position + 6)) (a .position + 6 + c .before .before .before .before .before .before .before .before .before .before .before .load-le .result + c .before .before .before .before .before .before .before .before .before .before .load-le2 .result - (a .position + 6 + c .before .before .before .before .before .before .before .before .before .before .before .load-le .result)) (a .position + 6 + c .before .before .before .before .before .before .before .before .before .before .before .load-le .result + c .before .before .before .before .before .before .before .before .before .before .load-le2 .result)
+    (omega arith) (omega arith) (omega arith) _ _ (c .before .before .before .before .before .keep .ensures .0) (c .before .before .before .before .before .keep .ensures .1)
+
+pub keep-step-spec : {M : Type 1} → statement M
+keep-step-spec =
+    tie.close
+    (tie.spec
+    (λ c. search needs)
+    (λ c κs. search needs)
+    returns
+    (λ c. search needs)
+    (λ c κs. search needs)
+    (λ c. search needs)
+    (λ c κs. search needs)
+    (λ c. search needs)
+    (λ c. search needs)
+    (λ c κs. search needs)
+    returns-2
+    (λ c. search needs)
+    (λ c. search needs)
+    (λ c. search needs)
+    (λ c. search needs)
+    (λ c. search needs)
+    (λ c. search needs)
+    (λ c. search needs)
+    (λ c. search needs)
+    (λ c. search needs)
+    (λ c κs. search needs)
+    (λ c. search needs)
+    (λ c. search needs)
+    returns-3)

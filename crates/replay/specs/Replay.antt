@@ -1,0 +1,82 @@
+-- A list of calls as bytes, and what performing it leaves: demand 3's first sentence about running code.
+-- Assumes nothing.
+use mathlib.Core.Bool.{Bool, true, false}
+use mathlib.Core.List.{List, [], _∷_, _++_}
+use mathlib.Core.Option.{Option, some, none}
+use mathlib.Core.Path.{_≡_}
+use Prim.Native.Nat.{ℕ, zero, suc, _+_, _-_, _/_, _≤_, _<_}
+use lib.Dec.{eqb, ltb}
+use lib.ListN.{length, take, drop}
+use Rattle.bytes_le.specs.Bytes.{Bytes, putBytes, le, leAt}
+use Rattle.icepole.specs.Sealing.{pick}
+use Rattle.burst.specs.declared.Recorder.{Recorder}
+use Rattle.burst.specs.Layout.{edition1, Identity}
+use Rattle.burst.specs.Plain.{Call, keepShot, dropShot, closeBurst, CallList, Answer, plainOf, plainAnswers, totalOf, fileOf}
+use Rattle.trace.specs.Trace.{nextRecorder, nextBuffer, answerTo, runBuffer}
+use Rattle.trace.specs.Agreement.{Reached}
+use Rattle.replay.specs.declared.Step.{Step}
+
+-- ---- a script: the calls one after another
+-- 0 is a drop, 1 a close; any other byte is a keep, and stamp length (1 byte), picture length (4), stamp and picture follow
+abbrev pub stampLength : Bytes → ℕ
+stampLength s = leAt 1 s 1
+
+abbrev pub pictureLength : Bytes → ℕ
+pictureLength s = leAt 4 s 2
+
+abbrev pub keepLength : Bytes → ℕ
+keepLength s = 6 + (stampLength s + pictureLength s)
+
+-- the first call of a script and how many bytes it takes; none at the script's end, and where a keep is cut by it
+unfoldable pub firstCall : Bytes → Option (Call × ℕ)
+firstCall s =
+    pick (eqb (length s) 0) none
+    (pick (eqb (leAt 1 s 0) 0) (some (dropShot, 1))
+    (pick (eqb (leAt 1 s 0) 1) (some (closeBurst, 1))
+    (pick (ltb (length s) (keepLength s)) none
+    (some (keepShot (take (stampLength s) (drop 6 s)) (take (pictureLength s) (drop (6 + stampLength s) s)), keepLength s)))))
+
+-- the calls of a script, at most so many as there is room for their answers
+abbrev pub following : Option (Call × ℕ) → (ℕ → List Call) → List Call
+following none more = []
+following (some x) more = x .0 ∷ more (x .1)
+
+abbrev pub scriptCalls : (room : ℕ) → Bytes → List Call
+scriptCalls zero s = []
+scriptCalls (suc room) s = following (firstCall s) (λ m. scriptCalls room (drop m s))
+
+-- ---- answers as bytes: refusal number (4), then shot number or total (4)
+abbrev pub answerBytes : Answer → Bytes
+answerBytes a = le 4 (a .number) ++ le 4 (a .value)
+
+abbrev pub answersBytes : List Answer → Bytes
+answersBytes [] = []
+answersBytes (a ∷ answers) = answerBytes a ++ answersBytes answers
+
+-- ---- one call of a script, from a position on
+abbrev pub stepOf : Recorder → Bytes → ℕ → Option (Call × ℕ) → Step
+stepOf r b position none = record { more = false; next = position; refusal = 0; value = 0; recorder = r }
+stepOf r b position (some x) = record {
+  more = true;
+  next = position + x .1;
+  refusal = answerTo r b (x .0) .number;
+  value = answerTo r b (x .0) .value;
+  recorder = nextRecorder r b (x .0);
+}
+
+abbrev pub stepBuffer : Recorder → Bytes → Option (Call × ℕ) → Bytes
+stepBuffer r b none = b
+stepBuffer r b (some x) = nextBuffer r b (x .0)
+
+-- ---- the whole
+-- the list that a script says, where so many bytes are lent for the answers: begin's needs eight, and each call's eight more
+abbrev pub listOf : (key : Bytes) (i : Identity) (buffer answers : ℕ) (script : Bytes) → CallList
+listOf key i buffer answers script = record { key = key; identity = i; bufferLength = buffer; calls = scriptCalls (answers / 8 - 1) script }
+
+-- what is left of the answers a, of the buffer b and of the count n. Without room for begin's answer nothing is done. Otherwise the answers are those of the plain burst, begin's first, and after an accepted close the front of the buffer is its file
+pub record Replayed (l : CallList) (a a′ b b′ : Bytes) (n : ℕ) : Type 0 where
+  pub nothing : length a < 8 → (n ≡ 0) × (a′ ≡ a) × (b′ ≡ b)
+  pub count : 8 ≤ length a → n ≡ length (plainAnswers edition1 l)
+  pub answers : 8 ≤ length a → a′ ≡ putBytes a 0 (answersBytes (plainAnswers edition1 l))
+  pub buffer : 8 ≤ length a → b′ ≡ runBuffer l b
+  pub file : 8 ≤ length a → Reached l → take (totalOf edition1 (plainOf edition1 l)) b′ ≡ fileOf edition1 (plainOf edition1 l)
