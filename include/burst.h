@@ -50,11 +50,11 @@ enum {
  * answers_len / 8 - 1 calls. Returns the count of answers written; with answers_len below 8 it does nothing and returns 0.
  * Refusals stand in the answers: begin 1, 3, 11; keep 8, 3, 9, 10, 11; drop 8, 9; close 8, 11, the first that holds.
  * After a close that is answered 0, the first bytes of the buffer, as many as its answer's total says, are the burst's file. */
-uint32_t burst_replay(const uint8_t *key, size_t key_len, uint64_t burst_number,
-                      const uint8_t *site_mark, size_t site_mark_len,
-                      const uint8_t *script, size_t script_len,
-                      uint8_t *buffer, size_t buffer_len,
-                      uint8_t *answers, size_t answers_len);
+size_t burst_replay(const uint8_t *key, size_t key_len, uint64_t burst_number,
+                    const uint8_t *site_mark, size_t site_mark_len,
+                    const uint8_t *script, size_t script_len,
+                    uint8_t *buffer, size_t buffer_len,
+                    uint8_t *answers, size_t answers_len);
 
 /* Checks a whole file. Refusals 1, 12, 7, then 5 for info. */
 uint32_t burst_check(const uint8_t *key, size_t key_len,
@@ -69,10 +69,10 @@ uint32_t burst_fetch(const uint8_t *key, size_t key_len,
                      uint32_t *mark, uint8_t *info, size_t info_len);
 
 /* Does all of check, then says where in the file the sealed record of a place stands. Refusals: check's, 13; then offset and
- * length are 0. */
+ * size are 0. */
 uint32_t burst_record(const uint8_t *key, size_t key_len,
                       const uint8_t *file, size_t file_len, uint16_t place,
-                      uint32_t *mark, uint32_t *offset, uint32_t *length);
+                      uint32_t *mark, uint32_t *offset, uint32_t *size);
 
 #ifdef __cplusplus
 }

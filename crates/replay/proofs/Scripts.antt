@@ -230,5 +230,5 @@ module _ (r : Recorder) (b script : Bytes) (position : ℕ) where
             let n : next ≡ position + keepLength here = omega arith in
             by-some _ (first-keep here some-here no-drop no-close (omega arith)) _ b′
             (ap₂ (λ (y : ShotAnswer) (j : ℕ). let st : Step = record { more = true; next = j; refusal = y .refusal; value = y .shot .0; recorder = y .recorder } in st)
-             (ek ∙ ap₂ (λ (x y : Bytes). keepAnswer r x y b) a₁ a₂) n)
+            (ek ∙ ap₂ (λ (x y : Bytes). keepAnswer r x y b) a₁ a₂) n)
             (eb ∙ ap₂ (λ (x y : Bytes). keepBuffer r x y b) a₁ a₂)

@@ -40,10 +40,11 @@ module _ (script : Bytes) (room : ℕ) (r₀ : Recorder) (b₀ a₀ : Bytes) whe
         → (i ≡ length All) × (b ≡ bufferFrom r₀ b₀ All) × (a ≡ putBytes a₀ 0 (answersBytes (answersFrom r₀ b₀ All)))
     none-left e w =
         let n = w .count in
-        let z = ap length e in
-        (omega arith,
-         ap (bufferFrom r b) (sym e) ∙ w .buffer,
-         put-none a (8 * i) ∙ ap (λ (cs : List Call). putBytes a (8 * i) (answersBytes (answersFrom r b cs))) (sym e) ∙ w .answers)
+        let z = ap length e in (
+          omega arith,
+          ap (bufferFrom r b) (sym e) ∙ w .buffer,
+          put-none a (8 * i) ∙ ap (λ (cs : List Call). putBytes a (8 * i) (answersBytes (answersFrom r b cs))) (sym e) ∙ w .answers,
+        )
 
     module _ (x : Call × ℕ) (st : Step) (e : scriptCalls (room - i) (drop position script) ≡ x .0 ∷ scriptCalls (room - (i + 1)) (drop (position + x .1) script))
         (is : st ≡ stepOf r b position (some x)) (b′ a₁ a₂ : Bytes) (i₁ : ℕ) where

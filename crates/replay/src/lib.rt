@@ -1,6 +1,5 @@
 // Performs a list of calls, given as bytes, on a real recorder and buffer, and writes every answer out.
 use burst::Recorder;
-
 ghost use mathlib.Core.Path.{_≡_};
 ghost use mathlib.Core.Bool.{false};
 ghost use Prim.Native.Nat.{_+_, _*_, _≤_, _<_};
@@ -34,8 +33,8 @@ fn stopped(r: Recorder, position: usize) -> Step
 fn keep_step(r: Recorder, script: &[u8], position: usize, buffer: &mut [u8]) -> Step
     requires { ⌜ (position < length (now script)) × (1 < leAt 1 (now script) position) ⌝ }
     ensures { λ s. ⌜
-      (s ≡ stepOf r (now (buffer .entry)) position (firstCall (drop position (now (script .entry))))) ×
-      (now (buffer .exit) ≡ stepBuffer r (now (buffer .entry)) (firstCall (drop position (now (script .entry))))) ⌝ }
+        (s ≡ stepOf r (now (buffer .entry)) position (firstCall (drop position (now (script .entry))))) ×
+        (now (buffer .exit) ≡ stepBuffer r (now (buffer .entry)) (firstCall (drop position (now (script .entry))))) ⌝ }
 {
     let left = script.len() - position;
     if left < 6 {
@@ -65,8 +64,8 @@ fn keep_step(r: Recorder, script: &[u8], position: usize, buffer: &mut [u8]) -> 
 fn perform(r: Recorder, script: &[u8], position: usize, buffer: &mut [u8]) -> Step
     requires { ⌜ position ≤ length (now script) ⌝ }
     ensures { λ s. ⌜
-      (s ≡ stepOf r (now (buffer .entry)) position (firstCall (drop position (now (script .entry))))) ×
-      (now (buffer .exit) ≡ stepBuffer r (now (buffer .entry)) (firstCall (drop position (now (script .entry))))) ⌝ }
+        (s ≡ stepOf r (now (buffer .entry)) position (firstCall (drop position (now (script .entry))))) ×
+        (now (buffer .exit) ≡ stepBuffer r (now (buffer .entry)) (firstCall (drop position (now (script .entry))))) ⌝ }
 {
     if position >= script.len() {
         return stopped(r, position);
@@ -99,18 +98,12 @@ fn perform(r: Recorder, script: &[u8], position: usize, buffer: &mut [u8]) -> St
 }
 
 // Performs the calls of a script, at most so many as there is room for; returns how many.
-fn run(
-    start: Recorder,
-    script: &[u8],
-    room: usize,
-    buffer: &mut [u8],
-    answers: &mut [u8],
-) -> usize
+fn run(start: Recorder, script: &[u8], room: usize, buffer: &mut [u8], answers: &mut [u8]) -> usize
     requires { ⌜ 8 * room ≤ length (now answers) ⌝ }
     ensures { λ n. ⌜
-      (n ≡ length (scriptCalls room (now (script .entry)))) ×
-      (now (buffer .exit) ≡ bufferFrom start (now (buffer .entry)) (scriptCalls room (now (script .entry)))) ×
-      (now (answers .exit) ≡ putBytes (now (answers .entry)) 0 (answersBytes (answersFrom start (now (buffer .entry)) (scriptCalls room (now (script .entry)))))) ⌝ }
+        (n ≡ length (scriptCalls room (now (script .entry)))) ×
+        (now (buffer .exit) ≡ bufferFrom start (now (buffer .entry)) (scriptCalls room (now (script .entry)))) ×
+        (now (answers .exit) ≡ putBytes (now (answers .entry)) 0 (answersBytes (answersFrom start (now (buffer .entry)) (scriptCalls room (now (script .entry)))))) ⌝ }
 {
     let mut r = start;
     let mut position: usize = 0;
@@ -139,8 +132,8 @@ pub fn replay(
     answers: &mut [u8],
 ) -> usize
     ensures { λ n. ⌜ Replayed
-      (listOf (now (key .entry)) (record { burstNumber = «burst_number»; siteMark = now («site_mark» .entry) }) (length (now (buffer .entry))) (length (now (answers .entry))) (now (script .entry)))
-      (now (answers .entry)) (now (answers .exit)) (now (buffer .entry)) (now (buffer .exit)) n ⌝ }
+        (listOf (now (key .entry)) (record { burstNumber = «burst_number»; siteMark = now («site_mark» .entry) }) (length (now (buffer .entry))) (length (now (answers .entry))) (now (script .entry)))
+        (now (answers .entry)) (now (answers .exit)) (now (buffer .entry)) (now (buffer .exit)) n ⌝ }
 {
     if answers.len() < 8 {
         return 0;

@@ -45,7 +45,7 @@ returns c =
     let f = stops (l .r) (l .buffer) (l .position) (a .script .now) (c .before .before .before .before .perform .result) (c .before .before .before .before .perform .ensures .0) (not-true _ (c .if1 .taken)) in
     let e : a .room - l .i ≡ suc (a .room - l .i - 1) = omega arith in
     let w = none-left (a .script .now) (a .room) _ _ _ (l .r) (l .buffer) (l .answers) (l .position) (l .i)
-        (ap (λ (n : ℕ). scriptCalls n (drop (l .position) (a .script .now))) e ∙ left-none (a .room - l .i - 1) (l .position) (a .script .now) f) (l .inv .4) in
+    (ap (λ (n : ℕ). scriptCalls n (drop (l .position) (a .script .now))) e ∙ left-none (a .room - l .i - 1) (l .position) (a .script .now) f) (l .inv .4) in
     (w .0, c .before .before .before .before .perform .ensures .1 ∙ ap (stepBuffer (l .r) (l .buffer)) f ∙ w .1, w .2)
 
 store-le-requires : tie.Need-store-le-requires Inv-loop μ-loop
@@ -68,12 +68,16 @@ loop-again c =
     let d = length-drop (l .position) (a .script .now) in
     let is = c .before .before .before .before .before .before .before .before .before .before .before .before .before .before .before .perform .ensures .0 ∙ ap (stepOf (l .r) (l .buffer) (l .position)) (g .1) in
     let e : a .room - l .i ≡ suc (a .room - (l .i + 1)) = omega (arith, c .before .before .before .before .before .before .before .before .before .before .before .before .before .before .before .before .before .loop-test) in
-    let en = ap (λ (y : Step). y .next) is in
-    (omega (arith, c .before .before .before .before .before .before .before .before .before .before .before .before .before .before .before .before .before .loop-test), omega (arith, en, m, d, l), c .before .before .before .store-le2 .kept .0 ∙ c .before .before .before .before .before .before .before .before .store-le .kept .0 ∙ l .inv .2, c .before .before .before .before .before .before .before .before .before .before .before .before .before .before .before .perform .kept .1 .1 .1 .0 ∙ l .inv .3,
-     turned (a .script .now) (a .room) _ _ _ (l .r) (l .buffer) (l .answers) (l .position) (l .i) x st
-     (ap (λ (n : ℕ). scriptCalls n (drop (l .position) (a .script .now))) e ∙ left-some (a .room - (l .i + 1)) (l .position) (a .script .now) x (g .1)) is _ _ _ _
-     (c .before .before .before .before .before .before .before .before .before .before .before .before .before .before .before .perform .ensures .1 ∙ ap (stepBuffer (l .r) (l .buffer)) (g .1)) (c .before .before .before .before .before .before .before .before .store-le .ensures .0) (c .before .before .before .before .before .before .before .before .store-le .ensures .1) (c .before .before .before .store-le2 .ensures .1)
-     (omega (arith, c .before .before .before .before .before .before .before .before .before .before .before .before .before .before .before .before .before .before .before .before .before .before .pre, l)) (c .before .before .before .before .before .before .before .before .before .before .before .before .before .before .before .before .before .loop-test .taken) (l .inv .4))
+    let en = ap (λ (y : Step). y .next) is in (
+      omega (arith, c .before .before .before .before .before .before .before .before .before .before .before .before .before .before .before .before .before .loop-test),
+      omega (arith, en, m, d, l),
+      c .before .before .before .store-le2 .kept .0 ∙ c .before .before .before .before .before .before .before .before .store-le .kept .0 ∙ l .inv .2,
+      c .before .before .before .before .before .before .before .before .before .before .before .before .before .before .before .perform .kept .1 .1 .1 .0 ∙ l .inv .3,
+      turned (a .script .now) (a .room) _ _ _ (l .r) (l .buffer) (l .answers) (l .position) (l .i) x st
+          (ap (λ (n : ℕ). scriptCalls n (drop (l .position) (a .script .now))) e ∙ left-some (a .room - (l .i + 1)) (l .position) (a .script .now) x (g .1)) is _ _ _ _
+          (c .before .before .before .before .before .before .before .before .before .before .before .before .before .before .before .perform .ensures .1 ∙ ap (stepBuffer (l .r) (l .buffer)) (g .1)) (c .before .before .before .before .before .before .before .before .store-le .ensures .0) (c .before .before .before .before .before .before .before .before .store-le .ensures .1) (c .before .before .before .store-le2 .ensures .1)
+          (omega (arith, c .before .before .before .before .before .before .before .before .before .before .before .before .before .before .before .before .before .before .before .before .before .before .pre, l)) (c .before .before .before .before .before .before .before .before .before .before .before .before .before .before .before .before .before .loop-test .taken) (l .inv .4),
+    )
 
 returns-2 : tie.Need-returns-2 Inv-loop μ-loop
 returns-2 c =

@@ -1,0 +1,136 @@
+// The C calls of include/burst.h.
+use burst::Place;
+use icepole::OUTPUT_TOO_SHORT;
+use reader::Checked;
+use reader::Fetched;
+ghost use mathlib.Core.Path.{_≡_};
+ghost use mathlib.Core.List.{_++_};
+ghost use Prim.Native.Nat.{_≤_};
+ghost use lib.ListN.{length};
+ghost use Rattle.bytes_le.specs.Bytes.{putBytes, le};
+ghost use Rattle.reader.specs.Reader.{checkMark, recordNumber, recordOffset, recordBytesIn};
+ghost use Rattle.replay.specs.Replay.{listOf, Replayed};
+ghost use Rattle.burst_c.specs.Calls.{checkCallNumber, checkCallInfo, fetchCallNumber, fetchCallOutput, fetchCallInfo};
+
+// Bytes of what check and fetch put into the info.
+const CHECK_INFO: usize = 30;
+
+const FETCH_INFO: usize = 22;
+
+#[no_mangle]
+pub extern "C" fn burst_replay(
+    key: &[u8],
+    burst_number: u64,
+    site_mark: &[u8],
+    script: &[u8],
+    buffer: &mut [u8],
+    answers: &mut [u8],
+) -> usize
+    ensures { λ n. ⌜ Replayed
+        (listOf (now (key .entry)) (record { burstNumber = «burst_number»; siteMark = now («site_mark» .entry) }) (length (now (buffer .entry))) (length (now (answers .entry))) (now (script .entry)))
+        (now (answers .entry)) (now (answers .exit)) (now (buffer .entry)) (now (buffer .exit)) n ⌝ }
+{
+    replay::replay(key, burst_number, site_mark, script, buffer, answers)
+}
+
+fn put_checked(c: Checked, info: &mut [u8])
+    requires { ⌜ 30 ≤ length (now info) ⌝ }
+    ensures { λ _. ⌜ now (info .exit) ≡ putBytes (now (info .entry)) 0 (le 8 (c .«burst_number») ++ (c .«site_mark» ++ (le 2 (c .taken) ++ (le 2 (c .kept) ++ le 2 (c .dropped))))) ⌝ }
+{
+    let site_mark = c.site_mark;
+    let i = bytes_le::store_le(info, 0, 8, c.burst_number);
+    let j = bytes_le::put_bytes(info, i, &site_mark);
+    let k = bytes_le::store_le(info, j, 2, c.taken as u64);
+    let l = bytes_le::store_le(info, k, 2, c.kept as u64);
+    bytes_le::store_le(info, l, 2, c.dropped as u64);
+}
+
+#[no_mangle]
+pub extern "C" fn burst_check(key: &[u8], file: &[u8], mark: &mut u32, info: &mut [u8]) -> u32
+    ensures { λ n. ⌜
+        (n ≡ checkCallNumber (now (key .entry)) (now (file .entry)) (now (info .entry))) ×
+        (now (mark .exit) ≡ checkMark (now (key .entry)) (now (file .entry))) ×
+        (now (info .exit) ≡ checkCallInfo (now (key .entry)) (now (file .entry)) (now (info .entry))) ⌝ }
+{
+    let c = reader::check(key, file);
+    *mark = c.mark;
+    if c.refusal != 0 {
+        return c.refusal;
+    }
+    if info.len() < CHECK_INFO {
+        return OUTPUT_TOO_SHORT;
+    }
+    put_checked(c, info);
+    0
+}
+
+fn put_fetched(r: Fetched, info: &mut [u8])
+    requires { ⌜ 22 ≤ length (now info) ⌝ }
+    ensures { λ _. ⌜ now (info .exit) ≡ putBytes (now (info .entry)) 0 (le 2 (r .shot .0) ++ (le 4 (r .length) ++ r .stamp)) ⌝ }
+{
+    let shot = r.shot;
+    let stamp = r.stamp;
+    let i = bytes_le::store_le(info, 0, 2, shot.0 as u64);
+    let j = bytes_le::store_le(info, i, 4, r.length as u64);
+    bytes_le::put_bytes(info, j, &stamp);
+}
+
+#[no_mangle]
+pub extern "C" fn burst_fetch(
+    key: &[u8],
+    file: &[u8],
+    place: u16,
+    out: &mut [u8],
+    mark: &mut u32,
+    info: &mut [u8],
+) -> u32
+    ensures { λ n. ⌜
+        (n ≡ fetchCallNumber (now (key .entry)) (now (file .entry)) place (now (out .entry)) (now (info .entry))) ×
+        (now (mark .exit) ≡ checkMark (now (key .entry)) (now (file .entry))) ×
+        (now (out .exit) ≡ fetchCallOutput (now (key .entry)) (now (file .entry)) place (now (out .entry)) (now (info .entry))) ×
+        (now (info .exit) ≡ fetchCallInfo (now (key .entry)) (now (file .entry)) place (now (out .entry)) (now (info .entry))) ⌝ }
+{
+    if info.len() < FETCH_INFO {
+        let l = reader::locate(key, file, Place(place));
+        *mark = l.mark;
+        if l.refusal != 0 {
+            return l.refusal;
+        }
+        return OUTPUT_TOO_SHORT;
+    }
+    let r = reader::fetch(key, file, Place(place), out);
+    *mark = r.mark;
+    if r.refusal != 0 {
+        return r.refusal;
+    }
+    put_fetched(r, info);
+    0
+}
+
+#[no_mangle]
+pub extern "C" fn burst_record(
+    key: &[u8],
+    file: &[u8],
+    place: u16,
+    mark: &mut u32,
+    offset: &mut u32,
+    size: &mut u32,
+) -> u32
+    ensures { λ n. ⌜
+        (n ≡ recordNumber (now (key .entry)) (now (file .entry)) place) ×
+        (now (mark .exit) ≡ checkMark (now (key .entry)) (now (file .entry))) ×
+        (now (offset .exit) ≡ recordOffset (now (key .entry)) (now (file .entry)) place) ×
+        (now (size .exit) ≡ length (recordBytesIn (now (key .entry)) (now (file .entry)) place)) ⌝ }
+{
+    let l = reader::locate(key, file, Place(place));
+    *mark = l.mark;
+    if l.refusal != 0 {
+        *offset = 0;
+        *size = 0;
+        return l.refusal;
+    }
+    let e = reader::entry_at(file, l.position);
+    *offset = e.offset;
+    *size = e.length + 32;
+    0
+}
