@@ -58,14 +58,15 @@ rust_tests() {
     fi
 }
 
-# The C program of the tests, compiled with the header as a firmware author would, and run under valgrind with buffers of the exact size.
+# A C program of the tests, compiled with the headers as a firmware author would, and run under valgrind with buffers of the exact size.
 c_program() {
-    gcc -std=c11 -Wall -Wextra -Werror -pedantic -g -Iinclude tests/c_calls/c/roundtrip.c target/staticlib/libicepole_c.a -o build/roundtrip &&
-        build/roundtrip || return 1
+    name=$(basename "$1" .c)
+    gcc -std=c11 -Wall -Wextra -Werror -pedantic -g -Iinclude "$1" "target/staticlib/$2" -o "build/$name" &&
+        "build/$name" || return 1
     if command -v valgrind >/dev/null; then
-        valgrind -q --error-exitcode=1 --leak-check=full build/roundtrip
+        valgrind -q --error-exitcode=1 --leak-check=full "build/$name"
     else
-        echo "valgrind is not here: the C program ran without it"
+        echo "valgrind is not here: $name ran without it"
     fi
 }
 
@@ -78,7 +79,8 @@ step "every crate is listed" crates_listed
 step "rt fmt --check" rt fmt --check
 prove
 step "make lib" lib
-step "the C program" c_program
+step "the C program of sealing" c_program tests/c_calls/c/roundtrip.c libicepole_c.a
+step "the C program of bursts" c_program tests/burst_calls/c/record_and_read.c libburst_c.a
 rust_tests
 echo "$passed passed, $failed failed" | tee build/result
 [ "$failed" -eq 0 ]

@@ -1,0 +1,327 @@
+/* The scope paper's example burst, recorded and read back through the C calls
+   as the camera's firmware makes them: burst 7, drop, keep of 3 bytes, drop.
+   Every buffer is its own piece of the heap, exactly as long as it must be,
+   so that a memory checker sees a call that reads or writes past it. */
+
+#include <stdio.h>
+#include <stdlib.h>
+#include <string.h>
+
+#include "burst.h"
+
+enum { KEY = 16, SITE_MARK = 16, STAMP = 16, PICTURE = 3 };
+enum { SCRIPT = 1 + 6 + STAMP + PICTURE + 1 + 1, CALLS = 4 };
+enum { RECORD_AT = 32, INDEX_AT = 67, CLOSING_AT = 79, TOTAL = 111 };
+enum { ANSWERS = BURST_ANSWER * (1 + CALLS) };
+
+static const uint8_t header[RECORD_AT] = {
+    0x01, 0x00, 0x03, 0x00, 0x01, 0x00, 0x02, 0x00,
+    0x07, 0x00, 0x00, 0x00, 0x00, 0x00, 0x00, 0x00,
+    0x20, 0x00, 0x00, 0x00, 0x43, 0x00, 0x00, 0x00,
+    0x4F, 0x00, 0x00, 0x00, 0x6F, 0x00, 0x00, 0x00,
+};
+
+static const uint8_t entry[CLOSING_AT - INDEX_AT] = {
+    2, 0, 0, 0, RECORD_AT, 0, 0, 0, PICTURE, 0, 0, 0,
+};
+
+/* Begin, drop, keep, drop, close: all accepted; shot numbers and the total. */
+static const uint8_t expected_answers[ANSWERS] = {
+    0, 0, 0, 0, 0, 0, 0, 0,
+    0, 0, 0, 0, 1, 0, 0, 0,
+    0, 0, 0, 0, 2, 0, 0, 0,
+    0, 0, 0, 0, 3, 0, 0, 0,
+    0, 0, 0, 0, TOTAL, 0, 0, 0,
+};
+
+/* What stands in a buffer that no call has written, and in a number. */
+static const uint8_t FILL = 0xA5;
+static const uint32_t FILL_NUMBER = 0xA5A5A5A5;
+
+static uint8_t *allocate(size_t length)
+{
+    uint8_t *bytes = malloc(length);
+    if (bytes == NULL) {
+        puts("no memory");
+        exit(1);
+    }
+    return bytes;
+}
+
+/* Bytes that count from `from` on. */
+static uint8_t *counting(size_t length, unsigned from)
+{
+    uint8_t *bytes = allocate(length);
+    for (size_t i = 0; i < length; i++) {
+        bytes[i] = (uint8_t)(from + i);
+    }
+    return bytes;
+}
+
+/* Bytes for a call to write. */
+static uint8_t *filled(size_t length)
+{
+    uint8_t *bytes = allocate(length);
+    memset(bytes, FILL, length);
+    return bytes;
+}
+
+/* A number for a call to write. */
+static uint32_t *number(void)
+{
+    uint32_t *lent = malloc(sizeof *lent);
+    if (lent == NULL) {
+        puts("no memory");
+        exit(1);
+    }
+    *lent = FILL_NUMBER;
+    return lent;
+}
+
+static int is_filled(const uint8_t *bytes, size_t length)
+{
+    for (size_t i = 0; i < length; i++) {
+        if (bytes[i] != FILL) {
+            return 0;
+        }
+    }
+    return 1;
+}
+
+/* What the firmware lends: secrets, script, file, and room for what the calls
+   say. */
+struct lent {
+    uint8_t *key, *site_mark, *stamp, *picture;
+    uint8_t *script, *file, *answers;
+    uint8_t *check_info, *fetch_info, *out;
+    uint32_t *mark, *offset, *size;
+};
+
+static struct lent lend(void)
+{
+    struct lent l;
+    l.key = counting(KEY, 1);
+    l.site_mark = counting(SITE_MARK, 50);
+    l.stamp = counting(STAMP, 100);
+    l.picture = counting(PICTURE, 200);
+    l.script = filled(SCRIPT);
+    l.file = filled(TOTAL);
+    l.answers = filled(ANSWERS);
+    l.check_info = filled(BURST_CHECK_INFO);
+    l.fetch_info = filled(BURST_FETCH_INFO);
+    l.out = filled(PICTURE);
+    l.mark = number();
+    l.offset = number();
+    l.size = number();
+    return l;
+}
+
+static void give_back(struct lent *l)
+{
+    free(l->key);
+    free(l->site_mark);
+    free(l->stamp);
+    free(l->picture);
+    free(l->script);
+    free(l->file);
+    free(l->answers);
+    free(l->check_info);
+    free(l->fetch_info);
+    free(l->out);
+    free(l->mark);
+    free(l->offset);
+    free(l->size);
+}
+
+/* Drop, keep, drop, close. */
+static void write_script(uint8_t *script, const uint8_t *stamp,
+                         const uint8_t *picture)
+{
+    const uint8_t keep[] = {2, STAMP, PICTURE, 0, 0, 0};
+    size_t at = 0;
+    script[at++] = 0;
+    memcpy(script + at, keep, sizeof keep);
+    at += sizeof keep;
+    memcpy(script + at, stamp, STAMP);
+    at += STAMP;
+    memcpy(script + at, picture, PICTURE);
+    at += PICTURE;
+    script[at++] = 0;
+    script[at] = 1;
+}
+
+/* Each step says what went wrong, or NULL. */
+static const char *record(struct lent *l)
+{
+    size_t count;
+
+    write_script(l->script, l->stamp, l->picture);
+    count = burst_replay(l->key, KEY, 7, l->site_mark, SITE_MARK, l->script,
+                         SCRIPT, l->file, TOTAL, l->answers, ANSWERS);
+    if (count != 1 + CALLS) {
+        return "not every call has an answer";
+    }
+    if (memcmp(l->answers, expected_answers, ANSWERS) != 0) {
+        return "the answers differ";
+    }
+    if (memcmp(l->file, header, sizeof header) != 0) {
+        return "the header differs";
+    }
+    if (memcmp(l->file + INDEX_AT, entry, sizeof entry) != 0) {
+        return "the index differs";
+    }
+    if (memcmp(l->file + RECORD_AT + STAMP, l->picture, PICTURE) == 0) {
+        return "the picture stands there in the clear";
+    }
+    return NULL;
+}
+
+/* A buffer one byte short: the keep is turned down, the rest is done. */
+static const char *record_short(struct lent *l)
+{
+    const uint8_t answer[BURST_ANSWER] = {BURST_BUFFER_TOO_SHORT};
+    uint8_t *buffer = filled(TOTAL - 1);
+    uint8_t *answers = filled(ANSWERS);
+    const char *wrong = NULL;
+    size_t count = burst_replay(l->key, KEY, 7, l->site_mark, SITE_MARK,
+                                l->script, SCRIPT, buffer, TOTAL - 1, answers,
+                                ANSWERS);
+    if (count != 1 + CALLS ||
+        memcmp(answers + 2 * BURST_ANSWER, answer, sizeof answer) != 0) {
+        wrong = "a buffer one byte short was not refused with 11";
+    } else if (!is_filled(buffer + 64, TOTAL - 1 - 64)) {
+        wrong = "bytes after an empty burst were written";
+    }
+    free(buffer);
+    free(answers);
+    return wrong;
+}
+
+static uint32_t fetch(struct lent *l, size_t out_len, size_t info_len)
+{
+    *l->mark = FILL_NUMBER;
+    return burst_fetch(l->key, KEY, l->file, TOTAL, 0, l->out, out_len,
+                       l->mark, l->fetch_info, info_len);
+}
+
+static const char *read_back(struct lent *l)
+{
+    const uint8_t counts[] = {3, 0, 1, 0, 2, 0};
+    const uint8_t shot_and_length[] = {2, 0, PICTURE, 0, 0, 0};
+
+    if (burst_check(l->key, KEY, l->file, TOTAL, l->mark, l->check_info,
+                    BURST_CHECK_INFO) != BURST_DONE) {
+        return "check refused";
+    }
+    if (*l->mark != 0 || memcmp(l->check_info, header + 8, 8) != 0 ||
+        memcmp(l->check_info + 8, l->site_mark, SITE_MARK) != 0 ||
+        memcmp(l->check_info + 24, counts, sizeof counts) != 0) {
+        return "what check says differs";
+    }
+
+    if (fetch(l, PICTURE - 1, BURST_FETCH_INFO) != BURST_OUTPUT_TOO_SHORT ||
+        fetch(l, PICTURE, BURST_FETCH_INFO - 1) != BURST_OUTPUT_TOO_SHORT) {
+        return "an output or info one byte short was not refused with 5";
+    }
+    if (*l->mark != 0 || !is_filled(l->out, PICTURE) ||
+        !is_filled(l->fetch_info, BURST_FETCH_INFO)) {
+        return "a refused fetch wrote";
+    }
+    if (fetch(l, PICTURE, BURST_FETCH_INFO) != BURST_DONE || *l->mark != 0) {
+        return "fetch refused";
+    }
+    if (memcmp(l->out, l->picture, PICTURE) != 0) {
+        return "the picture differs";
+    }
+    if (memcmp(l->fetch_info, shot_and_length, sizeof shot_and_length) != 0 ||
+        memcmp(l->fetch_info + 6, l->stamp, STAMP) != 0) {
+        return "what fetch says differs";
+    }
+
+    if (burst_record(l->key, KEY, l->file, TOTAL, 0, l->mark, l->offset,
+                     l->size) != BURST_DONE ||
+        *l->mark != 0 || *l->offset != RECORD_AT ||
+        *l->size != INDEX_AT - RECORD_AT) {
+        return "where the record stands differs";
+    }
+    if (burst_record(l->key, KEY, l->file, TOTAL, 1, l->mark, l->offset,
+                     l->size) != BURST_NO_SUCH_PLACE ||
+        *l->mark != 0 || *l->offset != 0 || *l->size != 0) {
+        return "place 1 was not refused with 13";
+    }
+    return NULL;
+}
+
+/* One bit of each byte of record and closing seal: 7, the mark saying which. */
+static const char *read_changed(struct lent *l)
+{
+    memset(l->out, FILL, PICTURE);
+    memset(l->fetch_info, FILL, BURST_FETCH_INFO);
+    memset(l->check_info, FILL, BURST_CHECK_INFO);
+    for (size_t at = RECORD_AT; at < TOTAL; at++) {
+        uint32_t mark = at < INDEX_AT ? 2 : 0;
+        uint32_t fetched, checked;
+        if (at >= INDEX_AT && at < CLOSING_AT) {
+            continue;
+        }
+        l->file[at] ^= 1;
+        fetched = fetch(l, PICTURE, BURST_FETCH_INFO);
+        if (fetched != BURST_TAG_DIFFERS || *l->mark != mark) {
+            return "fetch did not refuse a changed byte with 7 and its mark";
+        }
+        *l->mark = FILL_NUMBER;
+        checked = burst_check(l->key, KEY, l->file, TOTAL, l->mark,
+                              l->check_info, BURST_CHECK_INFO);
+        if (checked != BURST_TAG_DIFFERS || *l->mark != mark) {
+            return "check did not refuse a changed byte with 7 and its mark";
+        }
+        l->file[at] ^= 1;
+    }
+    if (!is_filled(l->out, PICTURE) ||
+        !is_filled(l->fetch_info, BURST_FETCH_INFO) ||
+        !is_filled(l->check_info, BURST_CHECK_INFO)) {
+        return "a refused call wrote";
+    }
+    return NULL;
+}
+
+/* Every cut of the file, each on its own piece of the heap: 12. */
+static const char *read_cut(struct lent *l)
+{
+    for (size_t length = 0; length < TOTAL; length++) {
+        uint8_t *cut = allocate(length + 1);
+        uint32_t checked;
+        /* The cut file ends where its piece of the heap does. */
+        memcpy(cut + 1, l->file, length);
+        *l->mark = FILL_NUMBER;
+        checked = burst_check(l->key, KEY, cut + 1, length, l->mark,
+                              l->check_info, BURST_CHECK_INFO);
+        free(cut);
+        if (checked != BURST_FRONT_BROKEN || *l->mark != 0) {
+            return "a cut file was not refused with 12";
+        }
+    }
+    return NULL;
+}
+
+int main(void)
+{
+    static const char *(*const steps[])(struct lent *) = {
+        record, record_short, read_back, read_changed, read_cut,
+    };
+    struct lent l = lend();
+    const char *wrong = NULL;
+    for (size_t i = 0; i < sizeof steps / sizeof steps[0]; i++) {
+        wrong = steps[i](&l);
+        if (wrong != NULL) {
+            break;
+        }
+    }
+    give_back(&l);
+    if (wrong != NULL) {
+        printf("record and read: %s\n", wrong);
+        return 1;
+    }
+    puts("record and read ok");
+    return 0;
+}

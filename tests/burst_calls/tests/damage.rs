@@ -1,0 +1,288 @@
+//! Damaged, cut and mixed files are refused by check, fetch and record, with
+//! the number and the mark of the reference, and nothing is written.
+
+use burst_calls::list::{burst_of, file_of, KEY};
+use burst_calls::reading::{check_check, check_fetch, check_record, check_refused, CHECK_INFO};
+use reference::burst::{Header, PlainBurst};
+
+/// Refused by the calls and the reference with this number and mark.
+fn assert_refused(file: &[u8], number: u32, mark: u32, what: &str) {
+    let refused = check_refused(&KEY, file, &|| what.into());
+    assert_eq!(refused, (number, mark), "{what}");
+}
+
+/// What check makes of the example file, shot 2 of 3 kept, with one byte
+/// changed. The shot number in the entry may still be one of the three.
+fn expected_in_example(at: usize, changed: &[u8]) -> (u32, u32) {
+    match at {
+        8..16 => (7, 0),
+        32..67 => (7, 2),
+        67..69 if (1..=3).contains(&changed[67]) && changed[68] == 0 => (7, 0),
+        79..111 => (7, 0),
+        _ => (12, 0),
+    }
+}
+
+#[test]
+fn every_value_of_every_byte() {
+    let file = file_of(7, &[0, 3, 0]);
+    assert_eq!(file.len(), 111);
+    for at in 0..file.len() {
+        for value in (0..=255).filter(|value| *value != file[at]) {
+            let mut changed = file.clone();
+            changed[at] = value;
+            let what = || format!("byte {at} value {value}");
+            let checked = check_check(&KEY, &changed, CHECK_INFO, &what);
+            let fetched = check_fetch(&KEY, &changed, 0, (3, 22), &what);
+            let recorded = check_record(&KEY, &changed, 0, &what);
+            let expected = expected_in_example(at, &changed);
+            assert_eq!([checked, fetched, recorded], [expected; 3], "{}", what());
+        }
+    }
+}
+
+/// One bit, and the whole byte, at every place of files with more pictures.
+#[test]
+fn every_bit_of_every_byte() {
+    for lengths in [&[][..], &[0, 3, 0], &[0, 5, 2, 0, 129, 1]] {
+        let file = file_of(7, lengths);
+        let mut marks = vec![0; 1 + lengths.len()];
+        for at in 0..file.len() {
+            for change in (0..8).map(|bit| 1 << bit).chain([0xFF]) {
+                let mut changed = file.clone();
+                changed[at] ^= change;
+                let what = || format!("{lengths:?}, byte {at} xor {change:#x}");
+                let (number, mark) = check_refused(&KEY, &changed, &what);
+                assert!([7, 12].contains(&number), "{}", what());
+                marks[mark as usize] += usize::from(number == 7);
+            }
+        }
+        // Every byte of every record has its shot number as the mark.
+        for (shot, length) in (1..).zip(lengths) {
+            let bytes = if *length > 0 { length + 32 } else { 0 };
+            assert_eq!(marks[shot], 9 * bytes, "shot {shot}");
+        }
+    }
+}
+
+#[test]
+fn every_length_cut_or_extended() {
+    for lengths in [&[0, 3, 0][..], &[], &[130, 0, 1]] {
+        let file = file_of(7, lengths);
+        for length in 0..file.len() {
+            assert_refused(&file[..length], 12, 0, &format!("cut to {length}"));
+            let end = &file[file.len() - length..];
+            assert_refused(end, 12, 0, &format!("the last {length}"));
+        }
+        for added in 0..=255 {
+            let longer = [&file[..], &[added]].concat();
+            assert_refused(&longer, 12, 0, &format!("{added} after it"));
+            let before = [&[added], &file[..]].concat();
+            assert_refused(&before, 12, 0, &format!("{added} before it"));
+        }
+        assert_refused(&[&file[..], &file].concat(), 12, 0, "twice");
+        for at in 0..file.len() {
+            let without = [&file[..at], &file[at + 1..]].concat();
+            assert_refused(&without, 12, 0, &format!("without byte {at}"));
+        }
+    }
+}
+
+/// Counts changed together so that the front rules still hold.
+#[test]
+fn counts_are_under_the_closing_seal() {
+    let file = file_of(7, &[0, 3, 0]);
+    for (taken, dropped) in [(2, 1), (4, 3), (60, 59)] {
+        let mut changed = file.clone();
+        (changed[2], changed[6]) = (taken, dropped);
+        assert_refused(&changed, 7, 0, "taken and dropped");
+    }
+    for shot in [1, 3] {
+        let mut changed = file.clone();
+        changed[67] = shot;
+        assert_refused(&changed, 7, 0, "another shot number");
+    }
+}
+
+/// Two ranges of a file swapped, each `length` bytes long.
+fn swapped(file: &[u8], first: usize, second: usize, length: usize) -> Vec<u8> {
+    let mut changed = file.to_vec();
+    let (front, back) = changed.split_at_mut(second);
+    front[first..first + length].swap_with_slice(&mut back[..length]);
+    changed
+}
+
+// Shots 2 and 4 are kept, of 5 bytes each: records at 32 and 69, the index at
+// 106, the closing seal at 130.
+#[test]
+fn swapped_entries_and_records() {
+    let file = file_of(21, &[0, 5, 0, 5]);
+    assert_eq!(file.len(), 162);
+    assert_refused(&swapped(&file, 106, 118, 12), 12, 0, "entries");
+    assert_refused(&swapped(&file, 106, 118, 2), 12, 0, "shot numbers");
+    assert_refused(&swapped(&file, 110, 122, 4), 12, 0, "offsets");
+    assert_refused(&swapped(&file, 32, 69, 37), 7, 2, "records");
+    let both = swapped(&swapped(&file, 106, 118, 12), 32, 69, 37);
+    assert_refused(&both, 12, 0, "entries and records");
+    let first = [&file[..69], &file[32..69], &file[106..]].concat();
+    assert_refused(&first, 7, 4, "the first record twice");
+    let second = [&file[..32], &file[69..106], &file[69..]].concat();
+    assert_refused(&second, 7, 2, "the second record twice");
+}
+
+/// Two lengths swapped, and then the second record moved to fit.
+#[test]
+fn swapped_lengths() {
+    let file = file_of(22, &[5, 6]);
+    let index = 32 + 37 + 38;
+    let mut changed = swapped(&file, index + 8, index + 20, 4);
+    assert_refused(&changed, 12, 0, "lengths alone");
+    changed[index + 16] = 32 + 38;
+    assert_refused(&changed, 7, 0, "lengths, and the offset between");
+}
+
+// Shots 1 and 3 are kept: records at 32 and 68, the index at 105, the closing
+// seal at 129.
+const KEPT_1_AND_3: [usize; 3] = [4, 0, 5];
+
+/// The burst of these shots, and one that differs from it as said.
+fn pair(change: impl Fn(&mut PlainBurst)) -> [Vec<u8>; 2] {
+    let burst = burst_of(30, &KEPT_1_AND_3);
+    let mut other = burst.clone();
+    change(&mut other);
+    let files = [burst.file(), other.file()];
+    assert_eq!(files.clone().map(|file| file.len()), [161; 2]);
+    let what = || "the other file".into();
+    assert_eq!(
+        check_check(&other.key, &files[1], CHECK_INFO, &what),
+        (0, 0)
+    );
+    files
+}
+
+/// Each part of the other file put into the file, alone.
+fn assert_parts_refused(file: &[u8], other: &[u8]) {
+    for (from, to, mark) in [(32, 68, 1), (68, 105, 3), (32, 105, 1), (129, 161, 0)] {
+        let mut changed = file.to_vec();
+        changed[from..to].copy_from_slice(&other[from..to]);
+        assert_refused(&changed, 7, mark, &format!("bytes {from} to {to}"));
+    }
+}
+
+#[test]
+fn parts_of_another_burst() {
+    let [file, other] = pair(|burst| burst.burst_number = 31);
+    assert_parts_refused(&file, &other);
+    // Header and closing seal of the other: the records are the wrong ones.
+    let mut changed = file.clone();
+    changed[..32].copy_from_slice(&other[..32]);
+    assert_refused(&changed, 7, 0, "the header");
+    changed[129..].copy_from_slice(&other[129..]);
+    assert_refused(&changed, 7, 1, "header and closing seal");
+    changed[32..68].copy_from_slice(&other[32..68]);
+    assert_refused(&changed, 7, 3, "all but the last record");
+}
+
+#[test]
+fn parts_under_another_key() {
+    for byte in [0, 7, 8, 15] {
+        let [file, other] = pair(|burst| burst.key[byte] ^= 1);
+        assert_refused(&other, 7, 0, "the other key's file");
+        assert_parts_refused(&file, &other);
+    }
+}
+
+#[test]
+fn closing_seal_of_another_list() {
+    // The same shots on another site: all but the closing seal is the same.
+    let [file, other] = pair(|burst| burst.site_mark[0] ^= 1);
+    assert_eq!(file[..129], other[..129]);
+    let mut mixed = file.clone();
+    mixed[129..145].copy_from_slice(&other[129..145]);
+    assert_refused(&mixed, 7, 0, "the other sealed site mark");
+    // The same pictures with one shot more.
+    let longer = file_of(30, &[4, 0, 5, 0]);
+    let mut changed = longer.clone();
+    changed[129..].copy_from_slice(&file[129..]);
+    assert_refused(&changed, 7, 0, "the closing seal before a drop");
+}
+
+/// The same picture under another shot number, or with another stamp, is
+/// another record.
+#[test]
+fn records_of_the_same_picture() {
+    let file = file_of(30, &[0, 4]);
+    let other = file_of(30, &[4, 0]);
+    let mut changed = file.clone();
+    changed[32..68].copy_from_slice(&other[32..68]);
+    assert_refused(&changed, 7, 2, "shot 1 as shot 2");
+    assert_refused(&swapped(&file, 32, 48, 4), 7, 2, "parts of a record");
+
+    let [file, other] = pair(|burst| burst.shots[0].as_mut().unwrap().0[5] ^= 2);
+    assert_eq!(file[68..], other[68..]);
+    let mut changed = file.clone();
+    changed[32..48].copy_from_slice(&other[32..48]);
+    assert_refused(&changed, 7, 1, "the stamp of another file");
+}
+
+/// The first failing seal gives the mark: the closing seal, then the records.
+#[test]
+fn first_failing_seal_gives_the_mark() {
+    let file = file_of(40, &[0, 2, 2, 0, 2]);
+    let records = [32, 66, 100];
+    let shots = [2, 3, 5];
+    let closing = file.len() - 1;
+    for damage in 1u32..16 {
+        let mut changed = file.clone();
+        for place in 0..3 {
+            changed[records[place] + 33] ^= ((damage >> place) & 1) as u8;
+        }
+        changed[closing] ^= (damage >> 3) as u8;
+        let mark = match damage {
+            8.. => 0,
+            _ => shots[damage.trailing_zeros() as usize],
+        };
+        assert_refused(&changed, 7, mark, &format!("damage {damage:b}"));
+    }
+}
+
+/// Every shot number as a mark: sixty kept pictures, one damaged.
+#[test]
+fn every_mark() {
+    let lengths: Vec<usize> = (0..60).map(|shot| usize::from(shot % 7 != 3)).collect();
+    let file = file_of(42, &lengths);
+    let mut record = 32;
+    for (shot, length) in (1..).zip(lengths) {
+        if length > 0 {
+            let mut changed = file.clone();
+            changed[record + 16] ^= 0x40;
+            assert_refused(&changed, 7, shot, &format!("shot {shot}"));
+            record += length + 32;
+        }
+    }
+}
+
+/// A wrong front comes before a failing seal.
+#[test]
+fn front_comes_before_the_seals() {
+    let mut file = file_of(41, &[2]);
+    file[33] ^= 1;
+    assert_refused(&file, 7, 1, "the record");
+    let header = Header {
+        edition: 2,
+        ..Header::from_bytes(&file)
+    };
+    file[..32].copy_from_slice(&header.to_bytes());
+    assert_refused(&file, 12, 0, "the record and the edition");
+}
+
+/// Files that no list was ever turned into.
+#[test]
+fn files_of_one_byte_repeated() {
+    for value in [0, 1, 32, 255] {
+        for length in (0..200).chain([65_536, 70_000]) {
+            let what = format!("{length} times {value}");
+            assert_refused(&vec![value; length], 12, 0, &what);
+        }
+    }
+}

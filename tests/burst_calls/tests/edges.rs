@@ -1,0 +1,334 @@
+//! The edges of the scope paper: "Marked values and edges".
+
+use burst_calls::lent::{check_same, Lent};
+use burst_calls::list::{burst_of, bytes, keep, shots_of, KEY, SITE_MARK};
+use burst_calls::reading::{
+    check_check, check_fetch, check_gives_back, check_reference_gives_back, CHECK_INFO, FETCH_INFO,
+};
+use burst_calls::recording::{Performed, Recording};
+use burst_calls::script::{answer_bytes, script_of};
+use reference::burst::reader::RecordPart;
+use reference::burst::{Answer, Call, Recorder};
+
+/// A list on a buffer, with room for every answer.
+fn recorded(burst_number: u64, calls: &[Call], buffer: usize, what: &str) -> Performed {
+    let room = 8 * (calls.len() + 1);
+    let recording = Recording::new(burst_number, script_of(calls), buffer, room);
+    recording.check(&|| what.into())
+}
+
+/// The shots, 0 for a dropped one, are all accepted on a buffer of exactly
+/// `total` bytes, and both readers give them back. One byte less is too short
+/// for the last kept picture. Gives the file.
+fn made(burst_number: u64, lengths: &[usize], total: usize) -> Vec<u8> {
+    let what = || {
+        format!(
+            "burst {burst_number} of {} shots, total {total}",
+            lengths.len()
+        )
+    };
+    let calls = shots_of(lengths);
+    let performed = recorded(burst_number, &calls, total, &what());
+    let shots = (0..=lengths.len() as u64).chain([total as u64]);
+    assert_eq!(performed.shots_and_totals(), shots.collect::<Vec<_>>());
+    assert_eq!(performed.numbers(), vec![0; lengths.len() + 2]);
+    let file = performed.buffer;
+    let burst = burst_of(burst_number, lengths);
+    check_gives_back(&burst, &file, &what);
+    check_reference_gives_back(&burst, &file, &what);
+
+    let short = recorded(burst_number, &calls, total - 1, &what());
+    let refused = lengths.iter().rposition(|length| *length > 0);
+    for (at, number) in short.numbers().into_iter().enumerate() {
+        let expected = match refused {
+            // Nothing was kept, so the buffer has 63 bytes.
+            None if at == 0 => 11,
+            None => 8,
+            Some(shot) if at == shot + 1 => 11,
+            Some(_) => 0,
+        };
+        assert_eq!(number, expected, "call {at} with a byte less, {}", what());
+    }
+
+    // One byte more, or twice as much, and the later bytes stay.
+    for spare in [1, total] {
+        recorded(burst_number, &calls, total + spare, &what());
+    }
+    file
+}
+
+/// Fetch into exactly the picture's length, one byte less, and one more; the
+/// info exact, one byte less, and one more.
+fn check_sizes(file: &[u8], place: u16, length: usize) {
+    let what = || format!("{} bytes", file.len());
+    for (out_len, info_len, number) in [
+        (length, FETCH_INFO, 0),
+        (length - 1, FETCH_INFO, 5),
+        (length, FETCH_INFO - 1, 5),
+        (length - 1, FETCH_INFO - 1, 5),
+        (0, 0, 5),
+        (length + 1, FETCH_INFO + 1, 0),
+    ] {
+        let given = check_fetch(&KEY, file, place, (out_len, info_len), &what);
+        assert_eq!(given, (number, 0), "out {out_len}, info {info_len}");
+    }
+    for (info_len, number) in [(CHECK_INFO, 0), (CHECK_INFO - 1, 5), (0, 5), (31, 0)] {
+        let given = check_check(&KEY, file, info_len, &what);
+        assert_eq!(given, (number, 0), "info {info_len}");
+    }
+}
+
+#[test]
+fn pictures_around_a_block() {
+    for length in [1, 127, 128, 129] {
+        let file = made(9, &[length], 108 + length);
+        let entry = [1, 0, 0, 0, 32, 0, 0, 0, length as u8, 0, 0, 0];
+        assert_eq!(file[64 + length..76 + length], entry);
+        check_sizes(&file, 0, length);
+    }
+    made(10, &[1, 127, 128, 129, 0, 256, 257], 32 + 898 + 6 * 44 + 32);
+}
+
+#[test]
+fn longest_picture() {
+    let file = made(11, &[1_048_576], 1_048_684);
+    check_sizes(&file, 0, 1_048_576);
+    // The index offset needs more than two bytes.
+    assert_eq!(file[20..24], [0x40, 0, 0x10, 0]);
+    made(11, &[0, 65_536, 0, 65_535, 1], 32 + 131_072 + 3 * 44 + 32);
+}
+
+#[test]
+fn picture_that_is_too_long_or_empty() {
+    for length in [0, 1_048_577, 1_048_578, 2 * 1_048_576] {
+        let calls = [keep(1, length), Call::Drop, keep(2, 3), Call::Close];
+        for buffer in [64, 111, 2_200_000] {
+            let performed = recorded(12, &calls, buffer, "a length out of range");
+            let keeps_3 = buffer >= 111;
+            let expected = if keeps_3 {
+                [0, 0, 1, 2, 111]
+            } else {
+                [0, 0, 1, 0, 64]
+            };
+            assert_eq!(performed.numbers()[1], 10);
+            assert_eq!(performed.shots_and_totals(), expected);
+        }
+    }
+}
+
+const LONGEST: usize = 1_048_576;
+
+/// The length of the longest file there is.
+const LONGEST_FILE: usize = 62_917_264;
+
+/// Sixty longest pictures, one more shot, and close.
+fn longest_list() -> Vec<Call> {
+    let shots = (1..=60).map(|shot| Call::Keep {
+        stamp: vec![shot; 16],
+        picture: bytes(shot.into(), LONGEST),
+    });
+    shots.chain([Call::Drop, Call::Close]).collect()
+}
+
+/// The answers of the list on a buffer, and the buffer after it; by the calls
+/// alone, to spare memory.
+fn longest_recorded(calls: &[Call], buffer_len: usize) -> (Vec<u8>, Vec<u8>) {
+    let mut recording = Recording::new(12, script_of(calls), buffer_len, 8 * 63);
+    let count = burst_calls::replay(
+        &recording.key,
+        recording.burst_number,
+        &recording.site_mark,
+        &recording.script,
+        &mut recording.buffer,
+        &mut recording.answers,
+    );
+    assert_eq!(count, 63);
+    (recording.answers, recording.buffer)
+}
+
+/// The buffer is as the reference's recorder leaves it. Only the last place is
+/// fetched.
+#[test]
+fn sixty_longest_pictures() {
+    let calls = longest_list();
+    let (answers, buffer) = longest_recorded(&calls, LONGEST_FILE);
+    let mut expected: Vec<Answer> = (0..=60).map(Answer::accepted).collect();
+    expected.extend([Answer::refused(9), Answer::accepted(LONGEST_FILE as u64)]);
+    assert!(answers == answer_bytes(&expected), "answers");
+    let mut file = vec![0; LONGEST_FILE];
+    let (mut recorder, _) = Recorder::begin(&KEY, 12, &SITE_MARK, &mut file);
+    for call in &calls[..60] {
+        if let Call::Keep { stamp, picture } = call {
+            recorder.keep(stamp, picture, &mut file);
+        }
+    }
+    recorder.close(&mut file);
+    check_same(&buffer, &file, &|| "the longest file".into());
+    drop(file);
+
+    let mut info = [0; CHECK_INFO];
+    assert_eq!(burst_calls::check(&KEY, &buffer, &mut info), (0, 0));
+    assert_eq!(info[24..], [60, 0, 60, 0, 0, 0]);
+    let part = RecordPart {
+        number: 0,
+        mark: 0,
+        offset: 32 + 59 * (LONGEST + 32),
+        length: LONGEST + 32,
+    };
+    assert_eq!(burst_calls::record(&KEY, &buffer, 59), part);
+    assert_eq!(burst_calls::record(&KEY, &buffer, 60).number, 13);
+    let (mut out, mut info) = (Lent::of(LONGEST), Lent::of(FETCH_INFO));
+    let fetched = burst_calls::fetch(&KEY, &buffer, 59, out.slice(), info.slice());
+    assert_eq!(fetched, (0, 0));
+    out.check_written(&bytes(60, LONGEST), &|| "picture".into());
+    let written = [&[60, 0, 0, 0, 16, 0][..], &[60; 16]].concat();
+    info.check_written(&written, &|| "info".into());
+}
+
+/// One byte less than the longest file: the 60th picture is turned down, and
+/// the next shot is the 60th.
+#[test]
+fn sixty_longest_pictures_and_a_byte_less() {
+    let (answers, buffer) = longest_recorded(&longest_list(), LONGEST_FILE - 1);
+    let mut expected: Vec<Answer> = (0..=59).map(Answer::accepted).collect();
+    let total = LONGEST_FILE - LONGEST - 44;
+    expected.extend([Answer::refused(11), Answer::accepted(60)]);
+    expected.push(Answer::accepted(total as u64));
+    assert!(answers == answer_bytes(&expected), "answers");
+    let mut info = [0; CHECK_INFO];
+    assert_eq!(
+        burst_calls::check(&KEY, &buffer[..total], &mut info),
+        (0, 0)
+    );
+    assert_eq!(info[24..], [60, 0, 59, 0, 1, 0]);
+}
+
+#[test]
+fn sixty_shots() {
+    made(13, &[1; 60], 64 + 60 * 45);
+    made(14, &[0; 60], 64);
+    let mixed: Vec<usize> = (0..60).map(|i| i % 3).collect();
+    made(15, &mixed, 64 + 20 * 45 + 20 * 46);
+}
+
+/// The 61st shot is turned down, kept or dropped, and so is every one after it;
+/// close then closes the sixty.
+#[test]
+fn sixty_first_shot() {
+    for sixty in [[0; 60], [1; 60]] {
+        let mut calls = shots_of(&sixty);
+        calls.pop();
+        let later = [
+            keep(61, 5),
+            Call::Drop,
+            keep(62, 1),
+            Call::Drop,
+            Call::Close,
+        ];
+        calls.extend(later);
+        let performed = recorded(16, &calls, 10_000, "61st shot");
+        let numbers = performed.numbers();
+        assert_eq!(numbers[..61], [0; 61]);
+        assert_eq!(numbers[61..], [9, 9, 9, 9, 0]);
+        let file = performed.file().unwrap();
+        let kept = sixty[0];
+        assert_eq!(file.len(), 64 + 60 * 45 * kept);
+        assert_eq!(performed.shots_and_totals()[65], file.len() as u64);
+        assert_eq!(file[2..4], [60, 0]);
+        check_gives_back(&burst_of(16, &sixty), file, &|| "sixty".into());
+    }
+}
+
+#[test]
+fn empty_burst_of_64_bytes() {
+    let file = made(17, &[], 64);
+    let mut header = [0; 32];
+    (header[0], header[8], header[16]) = (1, 17, 32);
+    (header[20], header[24], header[28]) = (32, 32, 64);
+    assert_eq!(file[..32], header);
+    // No buffer below 64 bytes will do, and it stays as it was.
+    for length in 0..64 {
+        let performed = recorded(17, &shots_of(&[]), length, "too short");
+        assert_eq!(performed.numbers(), [11, 8]);
+    }
+}
+
+#[test]
+fn last_shot_dropped() {
+    let file = made(18, &[4, 0], 112);
+    assert_eq!(file[2..8], [2, 0, 1, 0, 1, 0]);
+    made(18, &[0, 0, 0], 64);
+    made(18, &[0, 1, 2, 0, 0], 32 + 33 + 34 + 24 + 32);
+}
+
+/// With eight kept pictures header and index are 128 bytes, a full block.
+#[test]
+fn header_and_index_fill_a_block() {
+    for kept in [7, 8, 9] {
+        let mut lengths = vec![2; kept];
+        lengths.insert(3, 0);
+        made(19, &lengths, 32 + 34 * kept + 12 * kept + 32);
+    }
+}
+
+/// Burst numbers use all their eight bytes, in header, nonce and info.
+#[test]
+fn burst_numbers() {
+    let bits = (0..64).map(|bit| 1 << bit);
+    for burst_number in bits.chain([0, u64::MAX, u64::MAX - 1, 0x0102_0304_0506_0708]) {
+        let file = made(burst_number, &[3], 111);
+        assert_eq!(file[8..16], burst_number.to_le_bytes());
+    }
+}
+
+/// Every buffer length around what keeps and close need, on one list.
+#[test]
+fn every_buffer_length() {
+    // Each in turn needs 109, 157 and 203 bytes.
+    let calls = [keep(1, 1), keep(2, 4), Call::Drop, keep(3, 2), Call::Close];
+    for length in 0..300 {
+        let performed = recorded(20, &calls, length, "every length");
+        if length >= 64 {
+            let kept = performed.numbers()[1..5]
+                .iter()
+                .filter(|n| **n == 0)
+                .count();
+            assert!((1..=4).contains(&kept));
+        }
+    }
+    let numbers = |length| recorded(20, &calls, length, "by hand").numbers();
+    assert_eq!(numbers(63), [11, 8, 8, 8, 8, 8]);
+    assert_eq!(numbers(108), [0, 11, 11, 0, 11, 0]);
+    assert_eq!(numbers(109), [0, 0, 11, 0, 11, 0]);
+    assert_eq!(numbers(154), [0, 0, 11, 0, 11, 0]);
+    assert_eq!(numbers(155), [0, 0, 11, 0, 0, 0]);
+    assert_eq!(numbers(156), [0, 0, 11, 0, 0, 0]);
+    assert_eq!(numbers(157), [0, 0, 0, 0, 11, 0]);
+    assert_eq!(numbers(202), [0, 0, 0, 0, 11, 0]);
+    assert_eq!(numbers(203), [0, 0, 0, 0, 0, 0]);
+}
+
+/// A begin that is turned down turns every later call down, and leaves the
+/// buffer as it was.
+#[test]
+fn refused_begin() {
+    let calls = [keep(1, 3), Call::Drop, Call::Close, keep(2, 1), Call::Close];
+    for (key, site_mark, buffer, number) in [
+        (15, 16, 200, 1),
+        (17, 16, 200, 1),
+        (0, 16, 200, 1),
+        (16, 15, 200, 3),
+        (16, 0, 200, 3),
+        (16, 17, 200, 3),
+        (16, 16, 63, 11),
+        (16, 16, 0, 11),
+    ] {
+        let mut recording = Recording::new(21, script_of(&calls), buffer, 48);
+        recording.key = bytes(1, key);
+        recording.site_mark = bytes(2, site_mark);
+        let performed = recording.check(&|| "refused begin".into());
+        assert_eq!(performed.numbers(), [number, 8, 8, 8, 8, 8]);
+        assert_eq!(performed.shots_and_totals(), [0; 6]);
+        assert_eq!(performed.buffer, recording.buffer);
+    }
+}
