@@ -26,12 +26,13 @@ use Rattle.burst.proofs.Sealer.{agrees128, secret128}
 use Rattle.reader.specs.declared.Checked.{Checked}
 use Rattle.reader.specs.declared.Fetched.{Fetched}
 use Rattle.reader.specs.Front.{headerIn, keptIn, burstNumberIn, indexOffsetIn, entryAt, entriesAt, positionOf, frontRules}
-use Rattle.reader.specs.Reader.{closingPart, recordPart, recordParts, agrees, secretIn, messageIn, firstDiffering, checkNumber, checkMark, checkAnswer, recordNumber, recordBytesIn, notChecked, notFetched, fetchNumber, fetchAnswer, fetchOutput}
+use Rattle.reader.specs.Reader.{closingPart, recordPart, recordParts, agrees, secretIn, messageIn, firstDiffering, checkNumber, checkMark, checkAnswer, recordNumber, recordOffset, recordBytesIn, notChecked, notFetched, fetchNumber, fetchAnswer, fetchOutput}
 use Rattle.reader.proofs.Rules.{front-is}
-use Rattle.reader.proofs.Answers.{check-zero, check-0, Found, found, record-zero, record-done, fetch-0, fetch-not, fetch-refused}
+use Rattle.reader.proofs.Answers.{check-not, check-zero, check-0, Found, found, record-zero, record-refused, record-done, fetch-0, fetch-not, fetch-refused}
 use Rattle.trace.specs.Agreement.{Reached}
+use Rattle.trace.proofs.Agreement.{agreement}
 use Rattle.trace.proofs.Shots.{Valid, entries, pictures-gaps, used-least, used-most, length-index, length-records, length-closing, sound-entries}
-use Rattle.claims.specs.Demand3.{SameBurst, OneBurst, Numbered, Picture, pictureAt, whole, readFrom, readShots, GivenBack, GivesBack, Withheld, Withholds}
+use Rattle.claims.specs.Demand3.{SameBurst, OneBurst, Numbered, Picture, pictureAt, whole, readFrom, readShots, GivenBack, GivesBack, OnCard, Withheld, Withholds}
 use Rattle.claims.proofs.Lists.{Fine, fine, zero-or-not}
 use Rattle.claims.proofs.Reading.{HeaderIn, header-in, entries-read, records-agree, Placed, placed, every, below}
 
@@ -166,13 +167,17 @@ module _ (p : Plain) (valid : Valid (p .shots)) (most : length (p .shots) ≤ 60
       )
 
   sealed-record : (place : ℕ) (w : Picture) → pictureAt 1 32 xs place ≡ some w
-      → recordBytesIn (p .key) f place ≡ recordBytes (p .key) (p .identity .burstNumber) (w .shot) (w .offset) (w .stamp) (w .picture)
+      → (recordNumber (p .key) f place ≡ 0)
+      × (recordOffset (p .key) f place ≡ w .offset)
+      × (recordBytesIn (p .key) f place ≡ recordBytes (p .key) (p .identity .burstNumber) (w .shot) (w .offset) (w .stamp) (w .picture))
   sealed-record place w h =
       let y = place-at place w h in
       let b = below xs 1 32 place w h in
-      sym (record-done (p .key) f place (record-zero (p .key) f place accepted (let k = headed .kept in omega arith)) .0)
-      ∙ y .opens .sealed
-      ∙ ap (λ (n : ℕ). recordBytes (p .key) n (w .shot) (w .offset) (w .stamp) (w .picture)) (headed .burst)
+      let z = record-zero (p .key) f place accepted (let k = headed .kept in omega arith) in
+      let r = record-done (p .key) f place z in
+      (z,
+       sym (r .1) ∙ ap (λ (x : Entry). x .offset) (y .entry),
+       sym (r .0) ∙ y .opens .sealed ∙ ap (λ (n : ℕ). recordBytes (p .key) n (w .shot) (w .offset) (w .stamp) (w .picture)) (headed .burst))
 
   -- behind the last place nothing is given
   no-more : (place : ℕ) (out : Bytes) → pictures xs ≤ place → fetchAnswer (p .key) f place out .refusal ≡ 0 → ⊥
@@ -291,6 +296,11 @@ gives-back l t r =
     subst (λ (k : Bytes). GivenBack k (fileOf edition1 (plainOf edition1 l)) (plainOf edition1 l)) (g .key)
     (given-back (plainOf edition1 l) (g .valid) (g .most) (g .key16) (g .site16) n)
 
+-- the front of the buffer that a list leaves is that file
+pub on-card : OnCard
+on-card l b e t r =
+    subst (λ (f : Bytes). GivenBack (l .key) f (plainOf edition1 l)) (sym (agreement l b e .file r)) (gives-back l t r)
+
 -- ---- no file belongs to two bursts: both are what is read
 pub one-burst : OneBurst
 one-burst l l′ t t′ r r′ k e =
@@ -311,10 +321,6 @@ module _ (key f : Bytes) (place : ℕ) (out : Bytes) where
   unfolding fetchAnswer
   fetch-number = refl
 
-  fetch-mark : fetchAnswer key f place out .mark ≡ checkMark key f
-  unfolding fetchAnswer
-  fetch-mark = refl
-
   check-number : checkAnswer key f .refusal ≡ checkNumber key f
   unfolding checkAnswer
   check-number = refl
@@ -332,20 +338,21 @@ module _ (key f : Bytes) (place : ℕ) (out : Bytes) where
   unfolding recordNumber
   record-check h = simp (ne-eqb (checkNumber key f) 0 h)
 
-  record-empty : (recordNumber key f place ≡ 0 → ⊥) → recordBytesIn key f place ≡ []
-  unfolding recordBytesIn
-  record-empty h = simp (ne-eqb (recordNumber key f place) 0 h)
+  check-zeros : (num mark : ℕ) → checkNumber key f ≡ num → checkMark key f ≡ mark → (num ≡ 0 → ⊥) → checkAnswer key f ≡ notChecked num mark
+  check-zeros num mark e m h = sym (check-not key f num mark h (e, m))
 
   withheld : Withheld key f place out
   withheld = record {
     fetch = λ h.
         let r = refused-with (fetchNumber key f place out) refl (λ e. h (fetch-number ∙ e)) in
-        (sym (r .1), sym (r .0) ∙ ap₂ notFetched (sym fetch-number) (sym fetch-mark));
+        (sym (r .1), sym (r .0) ∙ ap₂ notFetched (sym fetch-number) (sym check-mark));
     check = λ h.
         let n : checkNumber key f ≡ 0 → ⊥ = λ e. h (check-number ∙ e) in
         let e = record-check n in
         let r = fetch-refused key f place out (checkNumber key f) (checkMark key f) (sym e) refl n in
-        (sym (r .0) ∙ ap₂ notFetched (sym check-number) (sym check-mark), e ∙ sym check-number, record-empty (λ z. n (sym e ∙ z)));
+        (check-zeros (checkNumber key f) (checkMark key f) refl refl n ∙ ap₂ notChecked (sym check-number) (sym check-mark),
+         sym (r .0) ∙ ap₂ notFetched (sym check-number) (sym check-mark), e ∙ sym check-number);
+    part = λ h. let r = record-refused key f place h in (sym (r .0), sym (r .1));
   }
 
 pub withholds : Withholds

@@ -3,7 +3,7 @@
 use Rattle.trace.proofs.Agreement.{agreement}
 use Rattle.claims.specs.Demand3.{Demand3}
 use Rattle.claims.proofs.Lists.{answered}
-use Rattle.claims.proofs.Back.{gives-back, one-burst, withholds}
+use Rattle.claims.proofs.Back.{gives-back, on-card, one-burst, withholds}
 use Rattle.claims.proofs.Accept.{accepts, reads}
 
 pub demand3 : Demand3
@@ -13,6 +13,7 @@ demand3 = record {
   one-burst = one-burst;
   accepts = accepts;
   gives-back = gives-back;
+  on-card = on-card;
   reads = reads;
   withholds = withholds;
 }

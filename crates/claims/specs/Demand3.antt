@@ -4,6 +4,7 @@
 --   one-burst   no file belongs to two bursts under its key
 --   accepts     the reader accepts exactly the files of such lists
 --   gives-back  it then gives back burst number, site mark and the list of shots, with taken = kept + dropped
+--   on-card     so too from the front of the buffer that the list leaves
 --   reads       and of every accepted file, what was read back makes that file again
 --   withholds   otherwise it releases no picture byte
 -- The cipher is ICEPOLE-128, as in the definitions of record and closing seal. Assumes nothing.
@@ -19,11 +20,12 @@ use Rattle.bytes_le.specs.Bytes.{Bytes, AllBytes, putBytes}
 use Rattle.icepole.specs.Sealing.{pick}
 use Rattle.burst.specs.Layout.{edition1, maxPicture, Identity, recordBytes}
 use Rattle.burst.specs.Numbers.{usedAfter}
-use Rattle.burst.specs.Plain.{Shot, kept, gap, pictures, gaps, Plain, fileOf, Call, keepShot, dropShot, closeBurst, CallList, Answer, plainOf, plainAnswers}
+use Rattle.burst.specs.Plain.{Shot, kept, gap, pictures, gaps, Plain, fileOf, Call, keepShot, dropShot, closeBurst, CallList, Answer, plainOf, plainAnswers, totalOf}
+use Rattle.trace.specs.Trace.{runBuffer}
 use Rattle.trace.specs.Agreement.{Reached, Agreement}
 use Rattle.reader.specs.declared.Checked.{Checked}
 use Rattle.reader.specs.declared.Fetched.{Fetched}
-use Rattle.reader.specs.Reader.{checkAnswer, fetchAnswer, fetchOutput, recordNumber, recordBytesIn, notFetched}
+use Rattle.reader.specs.Reader.{notChecked, notFetched, checkAnswer, fetchAnswer, fetchOutput, recordNumber, recordOffset, recordBytesIn}
 
 -- ---- an accepted close: one of the list's closes was answered 0
 abbrev pub CloseAnswered : List Call → List Answer → Type 0
@@ -81,23 +83,25 @@ abbrev pub Accepts : Type 0
 Accepts = (key f : Bytes) → AllBytes key → AllBytes f → (checkAnswer key f .refusal ≡ 0) ↔ FileOf key f
 
 -- ---- and gives back the list
--- the picture of a place, counted from 0, of shots the first of which is shot number n; its record stands at an offset
+-- a kept picture: its shot number, stamp and picture, and where its record stands
 pub record Picture : Type 0 where
   pub shot : ℕ
   pub stamp : Bytes
   pub picture : Bytes
   pub offset : ℕ
 
+-- the picture of a place, counted from 0, of shots the first of which is shot number n; the first record stands at `offset`
 abbrev pub pictureAt : (n offset : ℕ) → List Shot → ℕ → Option Picture
 pictureAt n offset [] place = none
 pictureAt n offset (gap ∷ xs) place = pictureAt (n + 1) offset xs place
 pictureAt n offset (kept s p ∷ xs) zero = some (record { shot = n; stamp = s; picture = p; offset = offset })
 pictureAt n offset (kept s p ∷ xs) (suc place) = pictureAt (n + 1) (usedAfter offset (length p)) xs place
 
--- the list of shots from the answers of check and fetch alone: shot number n is what the fetch at the next place gives if that is shot n, else a gap
+-- an output that holds every picture
 unfoldable pub whole : Bytes
 whole = replicate maxPicture 0
 
+-- the list of shots from the answers of check and fetch alone: shot number n is what the fetch at the next place gives if that is shot n, else a gap
 module _ (key f : Bytes) where
   abbrev pub readFrom : (left n place : ℕ) → List Shot
   readFrom zero n place = []
@@ -125,9 +129,11 @@ pub record GivenBack (key f : Bytes) (p : Plain) : Type 0 where
   pub fetched : (place : ℕ) (out : Bytes) (w : Picture) → pictureAt 1 (edition1 .headerLength) (p .shots) place ≡ some w → length (w .picture) ≤ length out
       → (fetchAnswer key f place out ≡ record { refusal = 0; mark = 0; shot = record { 0 = w .shot }; stamp = w .stamp; length = length (w .picture) })
       × (fetchOutput key f place out ≡ putBytes out 0 (w .picture))
-  -- the sealed record
+  -- the sealed record, and where it stands
   pub sealed : (place : ℕ) (w : Picture) → pictureAt 1 (edition1 .headerLength) (p .shots) place ≡ some w
-      → recordBytesIn key f place ≡ recordBytes key (p .identity .burstNumber) (w .shot) (w .offset) (w .stamp) (w .picture)
+      → (recordNumber key f place ≡ 0)
+      × (recordOffset key f place ≡ w .offset)
+      × (recordBytesIn key f place ≡ recordBytes key (p .identity .burstNumber) (w .shot) (w .offset) (w .stamp) (w .picture))
   pub shots : readShots key f ≡ p .shots
 
 abbrev pub GivesBack : Type 0
@@ -149,17 +155,24 @@ pub record ReadBack (key f : Bytes) : Type 0 where
 abbrev pub Reads : Type 0
 Reads = (key f : Bytes) → AllBytes key → AllBytes f → checkAnswer key f .refusal ≡ 0 → ReadBack key f
 
+-- ---- the same of the front of the buffer that a list leaves
+abbrev pub OnCard : Type 0
+OnCard = (l : CallList) (b : Bytes) → length b ≡ l .bufferLength → Numbered l → Reached l
+    → GivenBack (l .key) (take (totalOf edition1 (plainOf edition1 l)) (runBuffer l b)) (plainOf edition1 l)
+
 -- ---- otherwise no picture byte is released
 pub record Withheld (key f : Bytes) (place : ℕ) (out : Bytes) : Type 0 where
-  -- a fetch that is refused, with whatever number, leaves the output and answers zeros
+  -- a fetch that is refused, with whatever number, leaves the output and answers zeros with check's mark
   pub fetch : (fetchAnswer key f place out .refusal ≡ 0 → ⊥)
       → (fetchOutput key f place out ≡ out)
-      × (fetchAnswer key f place out ≡ notFetched (fetchAnswer key f place out .refusal) (fetchAnswer key f place out .mark))
-  -- where check refuses, fetch and record answer check's number and mark, and the part is empty
+      × (fetchAnswer key f place out ≡ notFetched (fetchAnswer key f place out .refusal) (checkAnswer key f .mark))
+  -- where check refuses, it answers zeros, and fetch and record answer its number and mark
   pub check : (checkAnswer key f .refusal ≡ 0 → ⊥)
-      → (fetchAnswer key f place out ≡ notFetched (checkAnswer key f .refusal) (checkAnswer key f .mark))
+      → (checkAnswer key f ≡ notChecked (checkAnswer key f .refusal) (checkAnswer key f .mark))
+      × (fetchAnswer key f place out ≡ notFetched (checkAnswer key f .refusal) (checkAnswer key f .mark))
       × (recordNumber key f place ≡ checkAnswer key f .refusal)
-      × (recordBytesIn key f place ≡ [])
+  -- a refused record is the empty part
+  pub part : (recordNumber key f place ≡ 0 → ⊥) → (recordBytesIn key f place ≡ []) × (recordOffset key f place ≡ 0)
 
 abbrev pub Withholds : Type 0
 Withholds = (key f : Bytes) (place : ℕ) (out : Bytes) → Withheld key f place out
@@ -170,5 +183,6 @@ pub record Demand3 : Type 0 where
   pub one-burst : OneBurst
   pub accepts : Accepts
   pub gives-back : GivesBack
+  pub on-card : OnCard
   pub reads : Reads
   pub withholds : Withholds

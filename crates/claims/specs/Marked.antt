@@ -1,17 +1,22 @@
--- The marked values of document 01, as one table: what the definitions give, and what the document says. `proofs/Marked.antt` shows that the two sides agree.
+-- The marked values of document 01, its example of burst 7 and its table of refusals by example, as one table: what the definitions give, and what the document says. `proofs/Marked.antt` shows that the two sides agree.
 -- Assumes nothing.
 use mathlib.Core.Path.{_≡_}
-use mathlib.Core.List.{List, [], _∷_, map}
+use mathlib.Core.Bool.{true, false}
+use mathlib.Core.List.{List, [], _∷_, _++_, map}
 use Prim.Native.Nat.{ℕ, _^_}
-use lib.ListN.{replicate}
+use lib.ListN.{replicate, drop}
 use Rattle.bits.specs.Bits.{bit, number}
 use Rattle.bytes_le.specs.Bytes.{Bytes}
 use Rattle.permutation.specs.State.{Grid, State, setWord, state}
 use Rattle.permutation.specs.Permutation.{μ, ρ, π, sbox}
 use Rattle.state_bytes.specs.StateBytes.{stateOf}
 use Rattle.icepole.specs.Sealing.{xorWith, pad}
-use Rattle.burst.specs.Layout.{edition1, closingOffset}
-use Rattle.burst.specs.Plain.{Plain, keepShot, dropShot, closeBurst, usedOf, totalOf, headerOf, plainOf}
+use Rattle.icepole.specs.declared.Variant.the-variants.{Icepole128}
+use Rattle.icepole.specs.Variants.{sizes}
+use Rattle.icepole.specs.Answers.{sealNumber, openNumber}
+use Rattle.burst.specs.Layout.{edition1, nonceOf, closingOffset}
+use Rattle.burst.specs.Numbers.{beginNumber, keepNumber, dropNumber}
+use Rattle.burst.specs.Plain.{pictures, Plain, keepShot, dropShot, closeBurst, CallList, Answer, usedOf, totalOf, headerOf, indexOf, plainOf, plainAnswers}
 
 -- the state with S[x][y] = w and zeros elsewhere
 abbrev pub only : ℕ → ℕ → ℕ → State
@@ -26,15 +31,48 @@ abbrev pub xoredIn : Bytes → ℕ → State
 xoredIn b frame = stateOf (xorWith (replicate 160 0) (pad b frame))
 
 -- burst 7 with drop, keep of 3 bytes, drop (01, "Afterwards"), closed in a buffer of 111 bytes; the key, the site mark, the stamp and the picture do not matter here
+abbrev pub list7 : CallList
+list7 = record {
+  key = replicate 16 0;
+  identity = record { burstNumber = 7; siteMark = replicate 16 0 };
+  bufferLength = 111;
+  calls = dropShot ∷ keepShot (replicate 16 0) (replicate 3 0) ∷ dropShot ∷ closeBurst ∷ [];
+}
+
 abbrev pub burst7 : Plain
-burst7 =
-    plainOf edition1
-    (record {
-      key = replicate 16 0;
-      identity = record { burstNumber = 7; siteMark = replicate 16 0 };
-      bufferLength = 111;
-      calls = dropShot ∷ keepShot (replicate 16 0) (replicate 3 0) ∷ dropShot ∷ closeBurst ∷ [];
-    })
+burst7 = plainOf edition1 list7
+
+-- 60 shots, the 61st, a close in 64 bytes, and a drop after it
+abbrev pub list60 : CallList
+list60 = record {
+  key = replicate 16 0;
+  identity = record { burstNumber = 7; siteMark = replicate 16 0 };
+  bufferLength = 64;
+  calls = replicate 61 dropShot ++ (closeBurst ∷ dropShot ∷ []);
+}
+
+-- each answer as its number, mark and value
+abbrev answers : CallList → Grid
+answers l = map (λ (a : Answer). a .number ∷ a .mark ∷ a .value ∷ []) (plainAnswers edition1 l)
+
+-- the refusals of document 01's table by its examples, from the lengths alone; then the largest picture in the smallest buffer, one byte less, and one byte more of picture
+abbrev pub refusals : List ℕ
+refusals =
+    sealNumber (sizes Icepole128) 15 16 16 0 3 35
+    ∷ sealNumber (sizes Icepole128) 16 12 16 0 3 35
+    ∷ keepNumber edition1 true 0 0 32 0 3 111
+    ∷ sealNumber (sizes Icepole128) 16 16 16 0 67108865 67108897
+    ∷ sealNumber (sizes Icepole128) 16 16 16 0 3 34
+    ∷ openNumber (sizes Icepole128) 16 16 0 31 true true
+    ∷ openNumber (sizes Icepole128) 16 16 0 35 true false
+    ∷ dropNumber edition1 false 3
+    ∷ dropNumber edition1 true 60
+    ∷ keepNumber edition1 true 0 0 32 16 0 111
+    ∷ beginNumber edition1 16 16 63
+    ∷ keepNumber edition1 true 0 0 32 16 1048576 1048684
+    ∷ keepNumber edition1 true 0 0 32 16 1048576 1048683
+    ∷ keepNumber edition1 true 0 0 32 16 1048577 1048685
+    ∷ []
 
 -- 0100 0300 0100 0200 0700000000000000 20000000 43000000 4F000000 6F000000
 abbrev pub header7 : Bytes
@@ -71,8 +109,13 @@ marked =
     ∷ (xoredIn (replicate 128 0) 1 is only 0 4 3)
     ∷ ((headerOf edition1 burst7 ∷ []) is (header7 ∷ []))
     ∷ (the (usedOf edition1 burst7) is the 67)
-    ∷ (the (closingOffset (usedOf edition1 burst7) 1) is the 79)
+    ∷ (the (closingOffset (usedOf edition1 burst7) (pictures (burst7 .shots))) is the 79)
     ∷ (the (totalOf edition1 burst7) is the 111)
+    ∷ (answers list7 is ((0 ∷ 0 ∷ 0 ∷ []) ∷ (0 ∷ 0 ∷ 1 ∷ []) ∷ (0 ∷ 0 ∷ 2 ∷ []) ∷ (0 ∷ 0 ∷ 3 ∷ []) ∷ (0 ∷ 0 ∷ 111 ∷ []) ∷ []))
+    ∷ ((indexOf edition1 burst7 ∷ []) is ((0x02 ∷ 0x00 ∷ 0x00 ∷ 0x00 ∷ 0x20 ∷ 0x00 ∷ 0x00 ∷ 0x00 ∷ 0x03 ∷ 0x00 ∷ 0x00 ∷ 0x00 ∷ []) ∷ []))
+    ∷ ((nonceOf 7 2 ∷ []) is ((0x07 ∷ 0x00 ∷ 0x00 ∷ 0x00 ∷ 0x00 ∷ 0x00 ∷ 0x00 ∷ 0x00 ∷ 0x02 ∷ 0x00 ∷ 0x00 ∷ 0x00 ∷ 0x00 ∷ 0x00 ∷ 0x00 ∷ 0x00 ∷ []) ∷ []))
+    ∷ (drop 60 (answers list60) is ((0 ∷ 0 ∷ 60 ∷ []) ∷ (9 ∷ 0 ∷ 0 ∷ []) ∷ (0 ∷ 0 ∷ 64 ∷ []) ∷ (8 ∷ 0 ∷ 0 ∷ []) ∷ []))
+    ∷ ((refusals ∷ []) is ((1 ∷ 2 ∷ 3 ∷ 4 ∷ 5 ∷ 6 ∷ 7 ∷ 8 ∷ 9 ∷ 10 ∷ 11 ∷ 0 ∷ 11 ∷ 10 ∷ []) ∷ []))
     ∷ []
 
 -- every row's two sides agree

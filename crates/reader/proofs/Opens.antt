@@ -2,7 +2,6 @@
 -- Assumes nothing.
 use mathlib.Core.Bool.{Bool, true, false, not}
 use mathlib.Core.List.{List, [], _++_}
-use mathlib.Core.Option.{Option, some, none}
 use mathlib.Core.Path.{_≡_, refl, sym, ap, ap₂, _∙_}
 use Prim.Native.Nat.{ℕ, _+_, _-_, _*_, _≤_}
 use native.Mathlib.Omega.{arith}
@@ -20,8 +19,6 @@ use Rattle.icepole.specs.Answers.{maxLength, openNumber, tagAgrees, openedAnswe
 use Rattle.icepole.proofs.Numbers.{open-0, open-decides}
 use Rattle.burst.specs.declared.Entry.{Entry}
 use Rattle.burst.specs.Layout.{nonceOf}
-use Rattle.reader.specs.declared.Verdict.the-variants.{Agree, Differs}
-use Rattle.reader.specs.Verdicts.{verdictOf}
 use Rattle.reader.specs.declared.Header.{Header}
 use Rattle.reader.specs.Front.{headerIn, keptIn, burstNumberIn, indexOffsetIn, entryAt}
 use Rattle.reader.specs.Reader.{closingPart, recordPart, agrees, secretIn, messageIn}
@@ -129,15 +126,6 @@ module _ (b : Bool) (count : ℕ) (s : Bytes) (r : Opened) (is : r ≡ openedAns
   secret-is h l =
       let z = length-replicate {A = ℕ} 16 0 in
       ap (λ (x : Opened). x .secret) is ∙ simp (tag-stands h) (put-whole (replicate 16 0) s (omega arith))
-
--- ---- the verdict on the records
-pub verdict-differs : (o : Option ℕ) (shot : ℕ) → verdictOf o ≡ Differs shot → o ≡ some shot
-verdict-differs none shot h = let z : _≡_ {A = ℕ} 0 1 = cc in absurd (omega arith)
-verdict-differs (some x) shot h = cc
-
-pub verdict-agrees : (o : Option ℕ) → verdictOf o ≡ Agree → o ≡ none
-verdict-agrees none h = refl
-verdict-agrees (some x) h = let z : _≡_ {A = ℕ} 0 1 = cc in absurd (omega arith)
 
 pub length-closing-secret : (key f : Bytes) → Front f → length (secretIn key f (closingPart f)) ≡ 16
 unfolding secretIn

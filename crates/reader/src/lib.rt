@@ -26,7 +26,7 @@ ghost use Rattle.burst.specs.Layout.{edition1, nonceOf};
 ghost use Rattle.burst.specs.Index.{indexRules};
 ghost use Rattle.reader.specs.Front.{headerIn, keptIn, burstNumberIn, indexOffsetIn, entryAt, entriesAt, frontRules};
 ghost use Rattle.reader.specs.Reader.{closingPart, recordPart, recordParts, agrees, secretIn, messageIn, firstDiffering, notChecked, notFetched, checkMark, checkAnswer, locateAnswer, recordNumber, recordOffset, recordBytesIn, fetchAnswer, fetchOutput};
-ghost use Rattle.reader.specs.Verdicts.{verdictOf};
+ghost use Rattle.reader.specs.Verdicts.{differingOf};
 
 // What check answers: a refusal number with its mark, or what the file says.
 pub struct Checked {
@@ -59,7 +59,7 @@ pub struct Fetched {
 // Whether the tags of some records agree, or the first shot whose tag differs.
 enum Verdict {
     Agree,
-    Differs(u16),
+    Differs(Shot),
 }
 
 // The entry that stands at a position of the file.
@@ -175,7 +175,7 @@ pub fn front_ok(f: &[u8]) -> bool
     index_ok(f, kept, index, h.taken, h.index)
 }
 
-// Opens the sealed part of count + 32 bytes that stands at an offset of the file, without its message.
+// Verifies the sealed part of count + 32 bytes that stands at an offset of the file; answers its secret number, not its message.
 fn verify_part(
     key: &[u8],
     f: &[u8],
@@ -227,14 +227,15 @@ fn record_agrees(key: &[u8], f: &[u8], burst_number: u64, position: usize) -> bo
 // The verdict on the records of all entries, in order.
 fn verify_records(key: &[u8], f: &[u8], burst_number: u64, count: usize, start: usize) -> Verdict
     requires { ⌜ (length (now key) ≡ 16) × (frontRules edition1 (now f) ≡ true) × («burst_number» ≡ burstNumberIn (now f)) × (count ≡ keptIn (now f)) × (start ≡ indexOffsetIn (now f)) ⌝ }
-    ensures { λ v. ⌜ v ≡ verdictOf (firstDiffering (now (key .entry)) (now (f .entry)) (recordParts count start (now (f .entry)))) ⌝ }
+    ensures { λ v. ⌜ differingOf v ≡ firstDiffering (now (key .entry)) (now (f .entry)) (recordParts count start (now (f .entry))) ⌝ }
 {
     let mut left = count;
     let mut position = start;
     while 0 < left {
         if !record_agrees(key, f, burst_number, position) {
             let e = entry_at(f, position);
-            return Verdict::Differs(e.shot.0);
+            let shot = e.shot;
+            return Verdict::Differs(shot);
         }
         position = position + 12;
         left = left - 1;
@@ -256,7 +257,7 @@ fn not_checked(refusal: u32, mark: u32) -> Checked
     }
 }
 
-// Opens the closing seal: header, then index, are its associated data.
+// Verifies the closing seal; header, then index, are its associated data.
 fn verify_closing(key: &[u8], f: &[u8], h: Header) -> Opened
     requires { ⌜ (length (now key) ≡ 16) × (frontRules edition1 (now f) ≡ true) × (h ≡ headerIn (now f)) ⌝ }
     ensures { λ r. ⌜ r ≡ openedAnswer (pick (agrees (now (key .entry)) (now (f .entry)) (closingPart (now (f .entry)))) 0 7) 0 (secretIn (now (key .entry)) (now (f .entry)) (closingPart (now (f .entry)))) ⌝ }
@@ -283,7 +284,7 @@ pub fn check(key: &[u8], f: &[u8]) -> Checked
     }
     let verdict = verify_records(key, f, h.burst_number, h.kept as usize, h.index as usize);
     match verdict {
-        Verdict::Differs(shot) => not_checked(TAG_DIFFERS, shot as u32),
+        Verdict::Differs(shot) => not_checked(TAG_DIFFERS, shot.0 as u32),
         Verdict::Agree => {
             let site_mark = closing.secret;
             Checked {
@@ -397,7 +398,7 @@ pub fn fetch(key: &[u8], f: &[u8], place: Place, out: &mut [u8]) -> Fetched
     open_record(key, f, l.burst_number, l.position, e, out)
 }
 
-// The sealed record of a place, as that part of the file; empty where the call is refused.
+// The sealed record of a place, as that part of the file; empty where the call is refused. The file comes first, since the part is lent from it.
 pub fn record<'a>(
     f: &'a [u8],
     key: &[u8],

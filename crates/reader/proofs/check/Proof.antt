@@ -10,9 +10,10 @@ use lib.ListN.{length}
 use Rattle.reader.specs.declared.Header.{Header}
 use Rattle.reader.specs.Front.{keptIn, indexOffsetIn}
 use Rattle.reader.specs.Reader.{closingPart, recordParts, agrees, secretIn, firstDiffering}
-use Rattle.reader.specs.Verdicts.{verdictOf}
+use Rattle.reader.specs.declared.Verdict.{Verdict}
+use Rattle.reader.specs.Verdicts.{differingOf}
 use Rattle.reader.proofs.Rules.{front}
-use Rattle.reader.proofs.Opens.{tag-differs, tag-stands, secret-is, length-closing-secret, verdict-differs, verdict-agrees}
+use Rattle.reader.proofs.Opens.{tag-differs, tag-stands, secret-is, length-closing-secret}
 use Rattle.reader.proofs.Answers.{check-1, check-12, check-closing, check-record, check-0}
 use Rattle.reader.proofs.check.Statement.{statement}
 use Rattle.reader.proofs.check.Tie as tie
@@ -33,7 +34,7 @@ returns-3 : tie.Need-returns-3
 returns-3 c =
     c .not-checked3 .ensures
     ∙ check-closing (c .before .before .before .before .before .before .before .before .before .before .args .key .now) (c .before .before .before .before .before .before .before .before .before .before .args .f .now) (omega (arith, c .before .before .before .before .before .before .before .if1)) (sym (c .before .before .before .before .before .before .front-ok .ensures) ∙ not-false _ (c .before .before .before .before .before .if2 .left))
-    (tag-differs _ _ _ _ (c .before .before .before .verify-closing .ensures) (c .before .if3 .taken))
+      (tag-differs _ _ _ _ (c .before .before .before .verify-closing .ensures) (c .before .if3 .taken))
 
 verify-records-requires : tie.Need-verify-records-requires
 verify-records-requires c κs =
@@ -42,14 +43,13 @@ verify-records-requires c κs =
 
 returns-4 : tie.Need-returns-4
 returns-4 c =
-    let key = c .before .before .before .before .before .before .before .before .before .before .before .before .before .before .before .before .args .key .now in
-    let f = c .before .before .before .before .before .before .before .before .before .before .before .before .before .before .before .before .args .f .now in
-    let e = c .before .before .before .before .before .before .before .before .before .before .header-in .ensures in
-    let v = c .before .before .before .before .verify-records .ensures
-    ∙ ap (λ (x : Header). verdictOf (firstDiffering key f (recordParts (x .kept) (x .index) f))) e in
+    let key = c .before .before .before .before .before .before .before .before .before .before .before .before .before .before .before .before .before .args .key .now in
+    let f = c .before .before .before .before .before .before .before .before .before .before .before .before .before .before .before .before .before .args .f .now in
+    let e = c .before .before .before .before .before .before .before .before .before .before .before .header-in .ensures in
+    let v = c .before .before .before .before .before .verify-records .ensures ∙ ap (λ (x : Header). firstDiffering key f (recordParts (x .kept) (x .index) f)) e in
     c .not-checked4 .ensures
-    ∙ check-record key f (omega (arith, c .before .before .before .before .before .before .before .before .before .before .before .before .before .if1)) (sym (c .before .before .before .before .before .before .before .before .before .before .before .before .front-ok .ensures) ∙ not-false _ (c .before .before .before .before .before .before .before .before .before .before .before .if2 .left)) (tag-stands _ _ _ _ (c .before .before .before .before .before .before .before .before .before .verify-closing .ensures) (c .before .before .before .before .before .before .before .if3 .left)) _
-    (verdict-differs _ _ (sym v ∙ c .before .before .verdict .given .1))
+    ∙ check-record key f (omega (arith, c .before .before .before .before .before .before .before .before .before .before .before .before .before .before .if1)) (sym (c .before .before .before .before .before .before .before .before .before .before .before .before .before .front-ok .ensures) ∙ not-false _ (c .before .before .before .before .before .before .before .before .before .before .before .before .if2 .left)) (tag-stands _ _ _ _ (c .before .before .before .before .before .before .before .before .before .before .verify-closing .ensures) (c .before .before .before .before .before .before .before .before .if3 .left)) _
+      (sym v ∙ ap differingOf (c .before .before .before .verdict .given .1))
 
 returns-5 : tie.Need-returns-5
 returns-5 c =
@@ -58,9 +58,8 @@ returns-5 c =
     let e = c .before .before .before .before .before .before .before .before .before .header-in .ensures in
     let hk : length key ≡ 16 = omega (arith, c .before .before .before .before .before .before .before .before .before .before .before .before .if1) in
     let hf = sym (c .before .before .before .before .before .before .before .before .before .before .before .front-ok .ensures) ∙ not-false _ (c .before .before .before .before .before .before .before .before .before .before .if2 .left) in
-    let v = c .before .before .before .verify-records .ensures
-    ∙ ap (λ (x : Header). verdictOf (firstDiffering key f (recordParts (x .kept) (x .index) f))) e in
-    check-0 key f hk hf (tag-stands _ _ _ _ (c .before .before .before .before .before .before .before .before .verify-closing .ensures) (c .before .before .before .before .before .before .if3 .left)) (verdict-agrees _ (sym v ∙ c .before .enum-told .given .1)) _ e _
+    let v = c .before .before .before .verify-records .ensures ∙ ap (λ (x : Header). firstDiffering key f (recordParts (x .kept) (x .index) f)) e in
+    check-0 key f hk hf (tag-stands _ _ _ _ (c .before .before .before .before .before .before .before .before .verify-closing .ensures) (c .before .before .before .before .before .before .if3 .left)) (sym v ∙ ap differingOf (c .before .enum-told .given .1)) _ e _
     (secret-is (agrees key f (closingPart f)) 0 (secretIn key f (closingPart f)) (c .before .before .before .before .before .before .before .before .verify-closing .result) (c .before .before .before .before .before .before .before .before .verify-closing .ensures) (c .before .before .before .before .before .before .if3 .left) (length-closing-secret key f (front f hf)))
 
 pub check-spec : {M : Type 1} → statement M

@@ -11,7 +11,6 @@ use Rattle.bytes_le.specs.Bytes.{Bytes}
 use Rattle.burst.specs.declared.Entry.{Entry}
 use Rattle.reader.specs.declared.Verdict.{Verdict}
 use Rattle.reader.specs.Reader.{recordParts, firstDiffering}
-use Rattle.reader.specs.Verdicts.{verdictOf}
 use Rattle.reader.proofs.Rules.{front, in-range-at}
 use Rattle.reader.proofs.Parts.{parts-end, parts-next, parts-differ}
 use Rattle.reader.proofs.verify_records.Statement.{statement}
@@ -43,29 +42,26 @@ entry-at-requires c κs =
 
 returns : tie.Need-returns Inv-loop μ-loop
 returns c =
-    let l = c .before .before .before .before .loop in
-    let a = c .before .before .before .before .before .before .before .args in
+    let l = c .before .before .before .before .before .loop in
+    let a = c .before .before .before .before .before .before .before .before .args in
     let f = a .f .now in
-    let e : l .left ≡ suc (l .left - 1) = omega (arith, l, c .before .before .before .loop-test) in
-    ap (λ (x : Entry). verdictOf (some (x .shot .0))) (c .entry-at .ensures)
+    let e : l .left ≡ suc (l .left - 1) = omega (arith, l, c .before .before .before .before .loop-test) in
+    ap (λ (x : Entry). some (x .shot .0)) (c .before .entry-at .ensures)
     ∙ sym
-    (ap verdictOf
-    (l .inv .2
-    ∙ ap (λ (n : ℕ). firstDiffering (a .key .now) f (recordParts n (l .position) f)) e
-    ∙ parts-differ (a .key .now) f (l .left - 1) (l .position) (sym (c .before .before .record-agrees .ensures) ∙ not-true _ (c .before .if1 .taken))))
+      (l .inv .2
+       ∙ ap (λ (n : ℕ). firstDiffering (a .key .now) f (recordParts n (l .position) f)) e
+       ∙ parts-differ (a .key .now) f (l .left - 1) (l .position) (sym (c .before .before .before .record-agrees .ensures) ∙ not-true _ (c .before .before .if1 .taken)))
 
 loop-again : tie.Need-loop-again Inv-loop μ-loop
 loop-again c =
     let l = c .before .before .before .loop in
     let a = c .before .before .before .before .before .before .args in
     let f = a .f .now in
-    let e : l .left ≡ suc (l .left - 1) = omega arith in (
-      omega arith,
-      omega arith,
-      l .inv .2
-          ∙ ap (λ (n : ℕ). firstDiffering (a .key .now) f (recordParts n (l .position) f)) e
-          ∙ parts-next (a .key .now) f (l .left - 1) (l .position) (sym (c .before .record-agrees .ensures) ∙ not-false _ (c .if1 .left)),
-    )
+    let e : l .left ≡ suc (l .left - 1) = omega arith in
+    (omega arith, omega arith,
+     l .inv .2
+     ∙ ap (λ (n : ℕ). firstDiffering (a .key .now) f (recordParts n (l .position) f)) e
+     ∙ parts-next (a .key .now) f (l .left - 1) (l .position) (sym (c .before .record-agrees .ensures) ∙ not-false _ (c .if1 .left)))
 
 add-position : tie.Need-add-position Inv-loop μ-loop
 add-position c =
@@ -80,9 +76,7 @@ returns-2 c =
     let a = c .before .before .before .before .args in
     let f = a .f .now in
     let e : l .left ≡ 0 = omega arith in
-    sym
-    (ap verdictOf
-    (l .inv .2 ∙ ap (λ (n : ℕ). firstDiffering (a .key .now) f (recordParts n (l .position) f)) e ∙ parts-end (a .key .now) f (l .position)))
+    sym (l .inv .2 ∙ ap (λ (n : ℕ). firstDiffering (a .key .now) f (recordParts n (l .position) f)) e ∙ parts-end (a .key .now) f (l .position))
 
 pub verify-records-spec : {M : Type 1} → statement M
 verify-records-spec =
