@@ -3,7 +3,7 @@
 set -e
 cd "$(dirname "$0")/.."
 mkdir -p build
-for name in permutation_bench icepole_bench icepole_c; do
+for name in permutation_bench icepole_bench icepole_c burst_c; do
     rt staticlib $name >build/staticlib.log 2>&1 || { cat build/staticlib.log; exit 1; }
 done
 c="gcc -std=c11 -Wall -Wextra -Werror -O3"
@@ -14,6 +14,8 @@ main="gcc -std=gnu11 -Wall -Wextra -Werror -O2"
 lib=target/staticlib
 $main bench/bench.c build/permutation.o $lib/libpermutation_bench.a -o build/bench
 $main bench/sealing.c build/icepole_plain.o build/icepole_shaped.o $lib/libicepole_c.a $lib/libicepole_bench.a -o build/sealing
+
+$main bench/burst.c $lib/libburst_c.a $lib/libicepole_c.a -o build/burst
 
 # What callgrind counts: instructions, the same in every run.
 count() {
@@ -34,3 +36,4 @@ build/bench
 echo "  instructions of one P6: proved $(p6 proved), plain C $(p6 plain)   (wanted: at most 2000)"
 build/sealing
 echo "instructions of a 128-byte block: sealed $(block seal) (wanted: at most 1930), opened $(block open) (wanted: at most 4050)"
+build/burst

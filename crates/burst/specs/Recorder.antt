@@ -34,7 +34,7 @@ newRecorder key i used closed = record {
   taken = record { 0 = 0 };
   kept = record { 0 = 0 };
   used = used;
-  entries = replicate 60 (entryOf 0 0 0);
+  entries = replicate (edition1 .maxShots) (entryOf 0 0 0);
   closed = closed;
 }
 

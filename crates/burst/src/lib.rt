@@ -7,15 +7,15 @@ ghost use mathlib.Core.List.{_++_};
 ghost use Prim.Native.Nat.{_+_, _*_, _≤_, _<_, _^_};
 ghost use lib.ListN.{length, take};
 ghost use Rattle.bytes_le.specs.Bytes.{putBytes};
-ghost use Rattle.burst.specs.Layout.{edition1, nonceOf, recordBytes, closingSeal};
+ghost use Rattle.burst.specs.Layout.{edition1, entryLength, nonceOf, recordBytes, closingSeal};
 ghost use Rattle.burst.specs.Numbers.{beginNumber, keepNumber, dropNumber, closeNumber};
 ghost use Rattle.burst.specs.Index.{entryOf, entryRules, bytesOfEntry};
 ghost use Rattle.burst.specs.Recorder.{isSound, newRecorder, beginAnswer, beginBuffer, dropAnswer, afterKeep, keepAnswer, keepBuffer, recorderHeader, recorderIndex, closeAnswer, closeBuffer};
 
-// Counts firings from 1.
+// A shot number (01): counts firings from 1.
 pub struct Shot(pub u16);
 
-// Counts kept pictures from 0.
+// A place (01): counts kept pictures from 0.
 pub struct Place(pub u16);
 
 // The refusal numbers of recorder and reader (01, "Turned down, by example"), after those of `icepole`.
@@ -67,7 +67,7 @@ pub struct Recorder {
     pub closed: bool,
 }
 
-// What the calls answer: a refusal number, 0 when done, its mark, and the rest, which is zero with a refusal. The recorder is then the one the call was given.
+// What the calls answer: a refusal number, 0 when done, its mark, and the rest, which is zero with a refusal. A refused keep, drop or close returns the recorder it was given, a refused begin a closed one, otherwise zero.
 pub struct Begun {
     pub refusal: u32,
     pub mark: u32,
@@ -389,6 +389,13 @@ pub fn keep(r: Recorder, stamp: &[u8], picture: &[u8], buffer: &mut [u8]) -> Sho
     }
 }
 
+// Bytes of the index, one entry for each kept picture. It takes a place, so that no count of shots can be handed in.
+pub fn index_length(kept: Place) -> usize
+    ensures { λ n. ⌜ n ≡ entryLength * kept .0 ⌝ }
+{
+    ENTRY_LENGTH * (kept.0 as usize)
+}
+
 // The header of a recorder's file.
 fn header_of(r: Recorder) -> [u8; 32]
     requires { ⌜ (r .kept .0 ≤ r .taken .0) × (r .used + 12 * r .kept .0 + 32 < 2 ^ 32) ⌝ }
@@ -397,7 +404,7 @@ fn header_of(r: Recorder) -> [u8; 32]
     let taken = r.taken.0;
     let kept = r.kept.0;
     let index = r.used as u64;
-    let closing = index + 12 * (kept as u64);
+    let closing = index + index_length(r.kept) as u64;
     let mut h = [0u8; 32];
     bytes_le::store_le(&mut h, 0, 2, EDITION as u64);
     bytes_le::store_le(&mut h, 2, 2, taken as u64);
@@ -459,7 +466,7 @@ fn close_number(r: Recorder, buffer: usize) -> u32
     if !sound(r) {
         return NOT_SOUND;
     }
-    let end = r.used as usize + ENTRY_LENGTH * (r.kept.0 as usize);
+    let end = r.used as usize + index_length(r.kept);
     if buffer < end + 32 {
         return BUFFER_TOO_SHORT;
     }
@@ -480,9 +487,9 @@ pub fn close(r: Recorder, buffer: &mut [u8]) -> Closed
     }
     let header = header_of(r);
     let index = index_of(r);
-    let n = ENTRY_LENGTH * (r.kept.0 as usize);
+    let n = index_length(r.kept);
     put_end(r, &header, &index[..n], buffer);
-    let total = r.used + 12 * (r.kept.0 as u32) + 32;
+    let total = r.used + n as u32 + SEAL_LENGTH;
     let mut next = r;
     next.closed = true;
     Closed {

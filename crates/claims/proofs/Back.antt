@@ -174,10 +174,11 @@ module _ (p : Plain) (valid : Valid (p .shots)) (most : length (p .shots) ≤ 60
       let y = place-at place w h in
       let b = below xs 1 32 place w h in
       let z = record-zero (p .key) f place accepted (let k = headed .kept in omega arith) in
-      let r = record-done (p .key) f place z in
-      (z,
-       sym (r .1) ∙ ap (λ (x : Entry). x .offset) (y .entry),
-       sym (r .0) ∙ y .opens .sealed ∙ ap (λ (n : ℕ). recordBytes (p .key) n (w .shot) (w .offset) (w .stamp) (w .picture)) (headed .burst))
+      let r = record-done (p .key) f place z in (
+        z,
+        sym (r .1) ∙ ap (λ (x : Entry). x .offset) (y .entry),
+        sym (r .0) ∙ y .opens .sealed ∙ ap (λ (n : ℕ). recordBytes (p .key) n (w .shot) (w .offset) (w .stamp) (w .picture)) (headed .burst),
+      )
 
   -- behind the last place nothing is given
   no-more : (place : ℕ) (out : Bytes) → pictures xs ≤ place → fetchAnswer (p .key) f place out .refusal ≡ 0 → ⊥
@@ -349,9 +350,11 @@ module _ (key f : Bytes) (place : ℕ) (out : Bytes) where
     check = λ h.
         let n : checkNumber key f ≡ 0 → ⊥ = λ e. h (check-number ∙ e) in
         let e = record-check n in
-        let r = fetch-refused key f place out (checkNumber key f) (checkMark key f) (sym e) refl n in
-        (check-zeros (checkNumber key f) (checkMark key f) refl refl n ∙ ap₂ notChecked (sym check-number) (sym check-mark),
-         sym (r .0) ∙ ap₂ notFetched (sym check-number) (sym check-mark), e ∙ sym check-number);
+        let r = fetch-refused key f place out (checkNumber key f) (checkMark key f) (sym e) refl n in (
+          check-zeros (checkNumber key f) (checkMark key f) refl refl n ∙ ap₂ notChecked (sym check-number) (sym check-mark),
+          sym (r .0) ∙ ap₂ notFetched (sym check-number) (sym check-mark),
+          e ∙ sym check-number,
+        );
     part = λ h. let r = record-refused key f place h in (sym (r .0), sym (r .1));
   }
 

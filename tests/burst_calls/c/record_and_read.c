@@ -12,7 +12,7 @@
 enum { KEY = 16, SITE_MARK = 16, STAMP = 16, PICTURE = 3 };
 enum { SCRIPT = 1 + 6 + STAMP + PICTURE + 1 + 1, CALLS = 4 };
 enum { RECORD_AT = 32, INDEX_AT = 67, CLOSING_AT = 79, TOTAL = 111 };
-enum { ANSWERS = BURST_ANSWER * (1 + CALLS) };
+enum { ANSWERS = BURST_ANSWER_BYTES * (1 + CALLS) };
 
 static const uint8_t header[RECORD_AT] = {
     0x01, 0x00, 0x03, 0x00, 0x01, 0x00, 0x02, 0x00,
@@ -107,8 +107,8 @@ static struct lent lend(void)
     l.script = filled(SCRIPT);
     l.file = filled(TOTAL);
     l.answers = filled(ANSWERS);
-    l.check_info = filled(BURST_CHECK_INFO);
-    l.fetch_info = filled(BURST_FETCH_INFO);
+    l.check_info = filled(BURST_CHECK_INFO_BYTES);
+    l.fetch_info = filled(BURST_FETCH_INFO_BYTES);
     l.out = filled(PICTURE);
     l.mark = number();
     l.offset = number();
@@ -179,7 +179,7 @@ static const char *record(struct lent *l)
 /* A buffer one byte short: the keep is turned down, the rest is done. */
 static const char *record_short(struct lent *l)
 {
-    const uint8_t answer[BURST_ANSWER] = {BURST_BUFFER_TOO_SHORT};
+    const uint8_t answer[BURST_ANSWER_BYTES] = {BURST_BUFFER_TOO_SHORT};
     uint8_t *buffer = filled(TOTAL - 1);
     uint8_t *answers = filled(ANSWERS);
     const char *wrong = NULL;
@@ -187,7 +187,7 @@ static const char *record_short(struct lent *l)
                                 l->script, SCRIPT, buffer, TOTAL - 1, answers,
                                 ANSWERS);
     if (count != 1 + CALLS ||
-        memcmp(answers + 2 * BURST_ANSWER, answer, sizeof answer) != 0) {
+        memcmp(answers + 2 * BURST_ANSWER_BYTES, answer, sizeof answer) != 0) {
         wrong = "a buffer one byte short was not refused with 11";
     } else if (!is_filled(buffer + 64, TOTAL - 1 - 64)) {
         wrong = "bytes after an empty burst were written";
@@ -210,7 +210,7 @@ static const char *read_back(struct lent *l)
     const uint8_t shot_and_length[] = {2, 0, PICTURE, 0, 0, 0};
 
     if (burst_check(l->key, KEY, l->file, TOTAL, l->mark, l->check_info,
-                    BURST_CHECK_INFO) != BURST_DONE) {
+                    BURST_CHECK_INFO_BYTES) != BURST_DONE) {
         return "check refused";
     }
     if (*l->mark != 0 || memcmp(l->check_info, header + 8, 8) != 0 ||
@@ -219,15 +219,15 @@ static const char *read_back(struct lent *l)
         return "what check says differs";
     }
 
-    if (fetch(l, PICTURE - 1, BURST_FETCH_INFO) != BURST_OUTPUT_TOO_SHORT ||
-        fetch(l, PICTURE, BURST_FETCH_INFO - 1) != BURST_OUTPUT_TOO_SHORT) {
+    if (fetch(l, PICTURE - 1, BURST_FETCH_INFO_BYTES) != BURST_OUTPUT_TOO_SHORT ||
+        fetch(l, PICTURE, BURST_FETCH_INFO_BYTES - 1) != BURST_OUTPUT_TOO_SHORT) {
         return "an output or info one byte short was not refused with 5";
     }
     if (*l->mark != 0 || !is_filled(l->out, PICTURE) ||
-        !is_filled(l->fetch_info, BURST_FETCH_INFO)) {
+        !is_filled(l->fetch_info, BURST_FETCH_INFO_BYTES)) {
         return "a refused fetch wrote";
     }
-    if (fetch(l, PICTURE, BURST_FETCH_INFO) != BURST_DONE || *l->mark != 0) {
+    if (fetch(l, PICTURE, BURST_FETCH_INFO_BYTES) != BURST_DONE || *l->mark != 0) {
         return "fetch refused";
     }
     if (memcmp(l->out, l->picture, PICTURE) != 0) {
@@ -256,8 +256,8 @@ static const char *read_back(struct lent *l)
 static const char *read_changed(struct lent *l)
 {
     memset(l->out, FILL, PICTURE);
-    memset(l->fetch_info, FILL, BURST_FETCH_INFO);
-    memset(l->check_info, FILL, BURST_CHECK_INFO);
+    memset(l->fetch_info, FILL, BURST_FETCH_INFO_BYTES);
+    memset(l->check_info, FILL, BURST_CHECK_INFO_BYTES);
     for (size_t at = RECORD_AT; at < TOTAL; at++) {
         uint32_t mark = at < INDEX_AT ? 2 : 0;
         uint32_t fetched, checked;
@@ -265,21 +265,21 @@ static const char *read_changed(struct lent *l)
             continue;
         }
         l->file[at] ^= 1;
-        fetched = fetch(l, PICTURE, BURST_FETCH_INFO);
+        fetched = fetch(l, PICTURE, BURST_FETCH_INFO_BYTES);
         if (fetched != BURST_TAG_DIFFERS || *l->mark != mark) {
             return "fetch did not refuse a changed byte with 7 and its mark";
         }
         *l->mark = FILL_NUMBER;
         checked = burst_check(l->key, KEY, l->file, TOTAL, l->mark,
-                              l->check_info, BURST_CHECK_INFO);
+                              l->check_info, BURST_CHECK_INFO_BYTES);
         if (checked != BURST_TAG_DIFFERS || *l->mark != mark) {
             return "check did not refuse a changed byte with 7 and its mark";
         }
         l->file[at] ^= 1;
     }
     if (!is_filled(l->out, PICTURE) ||
-        !is_filled(l->fetch_info, BURST_FETCH_INFO) ||
-        !is_filled(l->check_info, BURST_CHECK_INFO)) {
+        !is_filled(l->fetch_info, BURST_FETCH_INFO_BYTES) ||
+        !is_filled(l->check_info, BURST_CHECK_INFO_BYTES)) {
         return "a refused call wrote";
     }
     return NULL;
@@ -295,7 +295,7 @@ static const char *read_cut(struct lent *l)
         memcpy(cut + 1, l->file, length);
         *l->mark = FILL_NUMBER;
         checked = burst_check(l->key, KEY, cut + 1, length, l->mark,
-                              l->check_info, BURST_CHECK_INFO);
+                              l->check_info, BURST_CHECK_INFO_BYTES);
         free(cut);
         if (checked != BURST_FRONT_BROKEN || *l->mark != 0) {
             return "a cut file was not refused with 12";

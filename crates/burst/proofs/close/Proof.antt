@@ -8,6 +8,7 @@ use borrow.Author.Needs.{needs}
 use lib.ListN.{length, take}
 use lib.Seq.{length-take-le}
 use Rattle.bytes_le.specs.Bytes.{Bytes, putBytes}
+use Rattle.burst.specs.declared.Closed.{Closed}
 use Rattle.burst.specs.Layout.{closingSeal}
 use Rattle.burst.specs.Recorder.{recorderHeader, recorderIndex, recorderSeal, afterClose}
 use Rattle.burst.proofs.Rules.{sounds}
@@ -30,35 +31,56 @@ array-share-prefix-index : tie.Need-array-share-prefix-index
 array-share-prefix-index c =
     let w = closes _ _ _ _ (sym (c .before .before .before .before .before .close-number .ensures) ∙ c .before .before .before .before .if1 .left) in
     let g = sounds _ (w .0) in
-    omega (arith, g, c .before .before .index-of .ensures .0)
+    let n = c .before .index-length .ensures in
+    omega (arith, g, n, c .before .before .index-of .ensures .0)
 
 slice-aggregate-put-end-2 : tie.Need-slice-aggregate-put-end-2
 slice-aggregate-put-end-2 c =
     let w = closes _ _ _ _ (sym (c .before .before .before .before .before .before .close-number .ensures) ∙ c .before .before .before .before .before .if1 .left) in
     let g = sounds _ (w .0) in
-    sym (length-take-le (12 * c .before .before .before .before .before .before .before .before .args .r .kept .0) (c .before .before .before .index-of .result) (omega (arith, g, c .before .before .before .index-of .ensures .0)))
+    let n = c .before .before .index-length .ensures in
+    sym (length-take-le (c .before .before .index-length .result) (c .before .before .before .index-of .result) (omega (arith, g, n, c .before .before .before .index-of .ensures .0)))
 
 put-end-requires : tie.Need-put-end-requires
 put-end-requires c κs =
     let w = closes _ _ _ _ (sym (c .before .before .before .before .before .before .before .close-number .ensures) ∙ c .before .before .before .before .before .before .if1 .left) in
     let g = sounds _ (w .0) in
-    let l = length-take-le (12 * c .before .before .before .before .before .before .before .before .before .args .r .kept .0) (c .before .before .before .before .index-of .result) (omega (arith, g, c .before .before .before .before .index-of .ensures .0)) in
-    (ap length (c .before .before .before .before .before .header-of .ensures) ∙ length-recorder-header (c .before .before .before .before .before .before .before .before .before .args .r), omega (arith, g, l), g .least, omega (arith, g, l, w))
+    let n = c .before .before .before .index-length .ensures in
+    let l = length-take-le (c .before .before .before .index-length .result) (c .before .before .before .before .index-of .result) (omega (arith, g, n, c .before .before .before .before .index-of .ensures .0)) in
+    (ap length (c .before .before .before .before .before .header-of .ensures) ∙ length-recorder-header (c .before .before .before .before .before .before .before .before .before .args .r), omega (arith, g, n, l), g .least, omega (arith, g, n, l, w))
 
 add-total : tie.Need-add-total
-add-total c = let w = closes _ _ _ _ (sym (c .before .before .before .before .before .before .before .before .before .before .before .before .close-number .ensures) ∙ c .before .before .before .before .before .before .before .before .before .before .before .if1 .left) in let g = sounds _ (w .0) in omega (arith, g)
+add-total c =
+    let w = closes _ _ _ _ (sym (c .before .before .before .before .before .before .before .before .before .before .before .close-number .ensures) ∙ c .before .before .before .before .before .before .before .before .before .before .if1 .left) in
+    let g = sounds _ (w .0) in
+    let n = c .before .before .before .before .before .before .before .index-length .ensures in
+    omega (arith, g, n)
 
 add-total-2 : tie.Need-add-total-2
-add-total-2 c = let w = closes _ _ _ _ (sym (c .before .before .before .before .before .before .before .before .before .before .before .before .close-number .ensures) ∙ c .before .before .before .before .before .before .before .before .before .before .before .if1 .left) in let g = sounds _ (w .0) in omega (arith, g)
+add-total-2 c =
+    let w = closes _ _ _ _ (sym (c .before .before .before .before .before .before .before .before .before .before .before .close-number .ensures) ∙ c .before .before .before .before .before .before .before .before .before .before .if1 .left) in
+    let g = sounds _ (w .0) in
+    let n = c .before .before .before .before .before .before .before .index-length .ensures in
+    omega (arith, g, n)
+
+cast-total : tie.Need-cast-total
+cast-total c =
+    let w = closes _ _ _ _ (sym (c .before .before .before .before .before .before .before .before .before .before .close-number .ensures) ∙ c .before .before .before .before .before .before .before .before .before .if1 .left) in
+    let g = sounds _ (w .0) in
+    let n = c .before .before .before .before .before .before .index-length .ensures in
+    omega (arith, g, n)
 
 returns-2 : tie.Need-returns-2
 unfolding afterClose recorderSeal
 returns-2 c =
-    let r = c .before .before .before .before .before .before .before .before .before .before .before .before .before .before .args .r in
-    let b = c .before .before .before .before .before .before .before .before .before .before .before .before .before .before .args .buffer .now in
-    close-done r b (sym (c .before .before .before .before .before .before .before .before .before .before .before .before .close-number .ensures) ∙ c .before .before .before .before .before .before .before .before .before .before .before .if1 .left) _
-    (c .before .before .before .before .put-end .ensures
-    ∙ ap₂ (λ (h x : Bytes). putBytes (putBytes b 0 h) (r .used) (x ++ closingSeal (r .key) (record { burstNumber = r .«burst_number»; siteMark = r .«site_mark» }) h x)) (c .before .before .before .before .before .before .before .before .before .before .header-of .ensures) (c .before .before .before .before .before .before .before .before .before .index-of .ensures .1))
+    let r = c .before .before .before .before .before .before .before .before .before .before .before .before .before .args .r in
+    let b = c .before .before .before .before .before .before .before .before .before .before .before .before .before .args .buffer .now in
+    let n = c .before .before .before .before .before .before .before .index-length .ensures in
+    let p = close-done r b (sym (c .before .before .before .before .before .before .before .before .before .before .before .close-number .ensures) ∙ c .before .before .before .before .before .before .before .before .before .before .if1 .left) _
+    (c .before .before .before .put-end .ensures
+    ∙ ap₂ (λ (h x : Bytes). putBytes (putBytes b 0 h) (r .used) (x ++ closingSeal (r .key) (record { burstNumber = r .«burst_number»; siteMark = r .«site_mark» }) h x))
+    (c .before .before .before .before .before .before .before .before .before .header-of .ensures) (ap (λ (k : ℕ). take k (c .before .before .before .before .before .before .before .before .index-of .result)) n ∙ c .before .before .before .before .before .before .before .before .index-of .ensures .1)) in
+    (ap (λ (k : ℕ). let y : Closed = record { refusal = 0; mark = 0; total = r .used + k + 32; recorder = afterClose r } in y) n ∙ p .0, p .1)
 
 pub close-spec : {M : Type 1} → statement M
 close-spec =
@@ -68,14 +90,12 @@ close-spec =
     returns
     header-of-requires
     index-of-requires
-    (λ c. search needs)
-    (λ c. search needs)
+    (λ c κs. search needs)
     (λ c. search needs)
     array-share-prefix-index
     slice-aggregate-put-end-2
     put-end-requires
-    (λ c. search needs)
-    (λ c. search needs)
+    cast-total
     add-total
     add-total-2
     (λ c. search needs)

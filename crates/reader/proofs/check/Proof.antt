@@ -34,7 +34,7 @@ returns-3 : tie.Need-returns-3
 returns-3 c =
     c .not-checked3 .ensures
     ∙ check-closing (c .before .before .before .before .before .before .before .before .before .before .args .key .now) (c .before .before .before .before .before .before .before .before .before .before .args .f .now) (omega (arith, c .before .before .before .before .before .before .before .if1)) (sym (c .before .before .before .before .before .before .front-ok .ensures) ∙ not-false _ (c .before .before .before .before .before .if2 .left))
-      (tag-differs _ _ _ _ (c .before .before .before .verify-closing .ensures) (c .before .if3 .taken))
+    (tag-differs _ _ _ _ (c .before .before .before .verify-closing .ensures) (c .before .if3 .taken))
 
 verify-records-requires : tie.Need-verify-records-requires
 verify-records-requires c κs =
@@ -49,7 +49,7 @@ returns-4 c =
     let v = c .before .before .before .before .before .verify-records .ensures ∙ ap (λ (x : Header). firstDiffering key f (recordParts (x .kept) (x .index) f)) e in
     c .not-checked4 .ensures
     ∙ check-record key f (omega (arith, c .before .before .before .before .before .before .before .before .before .before .before .before .before .before .if1)) (sym (c .before .before .before .before .before .before .before .before .before .before .before .before .before .front-ok .ensures) ∙ not-false _ (c .before .before .before .before .before .before .before .before .before .before .before .before .if2 .left)) (tag-stands _ _ _ _ (c .before .before .before .before .before .before .before .before .before .before .verify-closing .ensures) (c .before .before .before .before .before .before .before .before .if3 .left)) _
-      (sym v ∙ ap differingOf (c .before .before .before .verdict .given .1))
+    (sym v ∙ ap differingOf (c .before .before .before .verdict .given .1))
 
 returns-5 : tie.Need-returns-5
 returns-5 c =

@@ -48,20 +48,22 @@ returns c =
     let e : l .left ≡ suc (l .left - 1) = omega (arith, l, c .before .before .before .before .loop-test) in
     ap (λ (x : Entry). some (x .shot .0)) (c .before .entry-at .ensures)
     ∙ sym
-      (l .inv .2
-       ∙ ap (λ (n : ℕ). firstDiffering (a .key .now) f (recordParts n (l .position) f)) e
-       ∙ parts-differ (a .key .now) f (l .left - 1) (l .position) (sym (c .before .before .before .record-agrees .ensures) ∙ not-true _ (c .before .before .if1 .taken)))
+    (l .inv .2
+    ∙ ap (λ (n : ℕ). firstDiffering (a .key .now) f (recordParts n (l .position) f)) e
+    ∙ parts-differ (a .key .now) f (l .left - 1) (l .position) (sym (c .before .before .before .record-agrees .ensures) ∙ not-true _ (c .before .before .if1 .taken)))
 
 loop-again : tie.Need-loop-again Inv-loop μ-loop
 loop-again c =
     let l = c .before .before .before .loop in
     let a = c .before .before .before .before .before .before .args in
     let f = a .f .now in
-    let e : l .left ≡ suc (l .left - 1) = omega arith in
-    (omega arith, omega arith,
-     l .inv .2
-     ∙ ap (λ (n : ℕ). firstDiffering (a .key .now) f (recordParts n (l .position) f)) e
-     ∙ parts-next (a .key .now) f (l .left - 1) (l .position) (sym (c .before .record-agrees .ensures) ∙ not-false _ (c .if1 .left)))
+    let e : l .left ≡ suc (l .left - 1) = omega arith in (
+      omega arith,
+      omega arith,
+      l .inv .2
+          ∙ ap (λ (n : ℕ). firstDiffering (a .key .now) f (recordParts n (l .position) f)) e
+          ∙ parts-next (a .key .now) f (l .left - 1) (l .position) (sym (c .before .record-agrees .ensures) ∙ not-false _ (c .if1 .left)),
+    )
 
 add-position : tie.Need-add-position Inv-loop μ-loop
 add-position c =
