@@ -76,9 +76,14 @@ module _ (e : Edition) where
       ++ (indexOf p ++ closingSeal (p .key) (p .identity) (headerOf p) (indexOf p)))
 
 -- ---- the calls after begin
+-- drop is given a recorder by value, or one that is lent and changed in place
+pub data Way : Type 0 where
+  byValue : Way
+  inPlace : Way
+
 pub data Call : Type 0 where
   keepShot : (stamp picture : Bytes) → Call
-  dropShot : Call
+  dropShot : Way → Call
   closeBurst : Call
 
 -- a list of calls: the arguments of its one begin, the length of the buffer, and the calls after it
@@ -99,7 +104,7 @@ module _ (e : Edition) (bufferLength : ℕ) where
   unfoldable pub numberOf : Plain → Call → ℕ
   numberOf p (keepShot s q) =
       keepNumber e (not (p .closed)) (length (p .shots)) (pictures (p .shots)) (usedOf e p) (length s) (length q) bufferLength
-  numberOf p dropShot = dropNumber e (not (p .closed)) (length (p .shots))
+  numberOf p (dropShot way) = dropNumber e (not (p .closed)) (length (p .shots))
   numberOf p closeBurst = closeNumber (not (p .closed)) (pictures (p .shots)) (usedOf e p) bufferLength
 
   abbrev withShot : Plain → Shot → Plain
@@ -108,13 +113,13 @@ module _ (e : Edition) (bufferLength : ℕ) where
   -- the burst after an accepted call
   unfoldable pub accepted : Plain → Call → Plain
   accepted p (keepShot s q) = withShot p (kept s q)
-  accepted p dropShot = withShot p gap
+  accepted p (dropShot way) = withShot p gap
   accepted p closeBurst = record { key = p .key; identity = p .identity; shots = p .shots; closed = true }
 
   -- what an accepted call answers: the count of shots, or the total
   unfoldable pub valueOf : Plain → Call → ℕ
   valueOf p (keepShot s q) = length (p .shots) + 1
-  valueOf p dropShot = length (p .shots) + 1
+  valueOf p (dropShot way) = length (p .shots) + 1
   valueOf p closeBurst = totalOf e p
 
   -- a call turned down changes nothing

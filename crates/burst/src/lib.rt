@@ -338,7 +338,7 @@ fn put_record(r: Recorder, stamp: &[u8], picture: &[u8], buffer: &mut [u8])
     let associated = entry_bytes(e);
     let none: [u8; 0] = [];
     let key = r.key;
-    let at = r.used as usize;
+    let start = r.used as usize;
     icepole::seal(
         Variant::Icepole128,
         &key,
@@ -347,7 +347,7 @@ fn put_record(r: Recorder, stamp: &[u8], picture: &[u8], buffer: &mut [u8])
         &associated,
         &none,
         picture,
-        &mut buffer[at..],
+        &mut buffer[start..],
     );
 }
 

@@ -21,7 +21,7 @@ use Rattle.icepole.proofs.OpenedBytes.{secret-bytes, message-bytes}
 use Rattle.burst.specs.Layout.{edition1, Identity, nonceOf, entryBytes, headerBytes, recordBytes, closingSeal}
 use Rattle.burst.specs.Numbers.{usedAfter, beginNumber}
 use Rattle.burst.specs.Index.{indexRules}
-use Rattle.burst.specs.Plain.{Shot, kept, gap, pictures, gaps, usedBy, records, index, Plain, headerOf, indexOf, fileOf, Call, keepShot, dropShot, closeBurst, CallList, numberOf, accepted, afterCall, afterCalls, begun, plainOf, beginRefusal}
+use Rattle.burst.specs.Plain.{Shot, kept, gap, pictures, gaps, usedBy, records, index, Plain, headerOf, indexOf, fileOf, byValue, Call, keepShot, dropShot, closeBurst, CallList, numberOf, accepted, afterCall, afterCalls, begun, plainOf, beginRefusal}
 use Rattle.burst.proofs.Rules.{Obeys, index-used}
 use Rattle.burst.proofs.Numbers.{keep-0, drop-0, close-0, begin-0}
 use Rattle.burst.proofs.Sealer.{sealed128, length-secret128, length-message128}
@@ -250,7 +250,7 @@ module _ (key f : Bytes) (fb : AllBytes f) (taken end : ℕ) (he : end ≤ lengt
 abbrev callsOf : List Shot → List Call
 callsOf [] = closeBurst ∷ []
 callsOf (kept s p ∷ xs) = keepShot s p ∷ callsOf xs
-callsOf (gap ∷ xs) = dropShot ∷ callsOf xs
+callsOf (gap ∷ xs) = dropShot byValue ∷ callsOf xs
 
 typed-calls : (xs : List Shot) → ShotBytes xs → TypedCalls (callsOf xs)
 typed-calls [] b = tt
@@ -262,7 +262,7 @@ module _ (q : Plain) (n : ℕ) where
   unfolding afterCall numberOf accepted
   close-yes ys h = simp (sym (close-0 true (pictures ys) (usedBy 32 ys) n refl h))
 
-  drop-yes : (ys : List Shot) → length ys < 60 → afterCall edition1 n (with q ys false) dropShot ≡ with q (ys ++ (gap ∷ [])) false
+  drop-yes : (ys : List Shot) → length ys < 60 → afterCall edition1 n (with q ys false) (dropShot byValue) ≡ with q (ys ++ (gap ∷ [])) false
   unfolding afterCall numberOf accepted
   drop-yes ys h = simp (sym (drop-0 true (length ys) refl h))
 

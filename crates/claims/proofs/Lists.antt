@@ -12,7 +12,7 @@ use lib.ListN.{length, length-append}
 use Rattle.bytes_le.specs.Bytes.{Bytes}
 use Rattle.icepole.specs.Sealing.{pick}
 use Rattle.burst.specs.Layout.{edition1, Identity}
-use Rattle.burst.specs.Plain.{Shot, kept, gap, pictures, usedBy, Plain, noBurst, Call, keepShot, dropShot, closeBurst, CallList, Answer, numberOf, accepted, afterCall, answerOf, afterCalls, answersOf, begun, plainOf, plainAnswers, beginRefusal}
+use Rattle.burst.specs.Plain.{Shot, kept, gap, pictures, usedBy, Plain, noBurst, Way, Call, keepShot, dropShot, closeBurst, CallList, Answer, numberOf, accepted, afterCall, answerOf, afterCalls, answersOf, begun, plainOf, plainAnswers, beginRefusal}
 use Rattle.burst.proofs.Rules.{clash}
 use Rattle.burst.proofs.Numbers.{keeps, drops, begins, keep-8, drop-8, close-8}
 use Rattle.trace.specs.Agreement.{Reached}
@@ -63,7 +63,7 @@ module _ (n : ℕ) where
           key16 = g .key16;
           site16 = g .site16;
         }
-    fine-accepted p dropShot g z =
+    fine-accepted p (dropShot way) g z =
         let w = drops _ _ z in
         record {
           key = g .key;
@@ -92,7 +92,7 @@ module _ (n : ℕ) where
   closed-8 : (p : Plain) (c : Call) → p .closed ≡ true → numberOf edition1 n p c ≡ 8
   unfolding numberOf
   closed-8 p (keepShot s q) h = sym (keep-8 _ _ _ _ _ _ _ (ap not h))
-  closed-8 p dropShot h = sym (drop-8 _ _ (ap not h))
+  closed-8 p (dropShot way) h = sym (drop-8 _ _ (ap not h))
   closed-8 p closeBurst h = sym (close-8 _ _ _ _ (ap not h))
 
   closed-stays : (p : Plain) (c : Call) → p .closed ≡ true → afterCall edition1 n p c ≡ p
@@ -111,7 +111,7 @@ module _ (n : ℕ) where
   none-answered : (p : Plain) (cs : List Call) → p .closed ≡ true → CloseAnswered cs (answersOf edition1 n p cs) → ⊥
   none-answered p [] h a = a
   none-answered p (keepShot s q ∷ cs) h a = none-answered _ cs (ap (λ (q : Plain). q .closed) (closed-stays p (keepShot s q) h) ∙ h) a
-  none-answered p (dropShot ∷ cs) h a = none-answered _ cs (ap (λ (q : Plain). q .closed) (closed-stays p dropShot h) ∙ h) a
+  none-answered p (dropShot way ∷ cs) h a = none-answered _ cs (ap (λ (q : Plain). q .closed) (closed-stays p (dropShot way) h) ∙ h) a
   none-answered p (closeBurst ∷ cs) h (inl a) = let e : _≡_ {A = ℕ} 8 0 = sym (closed-8 p closeBurst h) ∙ sym (answer-number p closeBurst) ∙ a in omega arith
   none-answered p (closeBurst ∷ cs) h (inr a) = none-answered _ cs (ap (λ (q : Plain). q .closed) (closed-stays p closeBurst h) ∙ h) a
 
@@ -119,9 +119,9 @@ module _ (n : ℕ) where
   unfolding accepted
   keep-open p s q h = taken-on n p (keepShot s q) (λ x. x .closed ≡ false) (λ _. h) h
 
-  drop-open : (p : Plain) → p .closed ≡ false → afterCall edition1 n p dropShot .closed ≡ false
+  drop-open : (p : Plain) (way : Way) → p .closed ≡ false → afterCall edition1 n p (dropShot way) .closed ≡ false
   unfolding accepted
-  drop-open p h = taken-on n p dropShot (λ x. x .closed ≡ false) (λ _. h) h
+  drop-open p way h = taken-on n p (dropShot way) (λ x. x .closed ≡ false) (λ _. h) h
 
   close-accepted : (p : Plain) → numberOf edition1 n p closeBurst ≡ 0 → afterCall edition1 n p closeBurst .closed ≡ true
   unfolding accepted
@@ -133,7 +133,7 @@ module _ (n : ℕ) where
   answered-closed : (p : Plain) (cs : List Call) → p .closed ≡ false → CloseAnswered cs (answersOf edition1 n p cs) → afterCalls edition1 n p cs .closed ≡ true
   answered-closed p [] h a = absurd a
   answered-closed p (keepShot s q ∷ cs) h a = answered-closed _ cs (keep-open p s q h) a
-  answered-closed p (dropShot ∷ cs) h a = answered-closed _ cs (drop-open p h) a
+  answered-closed p (dropShot way ∷ cs) h a = answered-closed _ cs (drop-open p way h) a
   answered-closed p (closeBurst ∷ cs) h (inl a) = closed-after _ cs (close-accepted p (sym (answer-number p closeBurst) ∙ a))
   answered-closed p (closeBurst ∷ cs) h (inr a) =
       zero-or-not (numberOf edition1 n p closeBurst) _
@@ -143,7 +143,7 @@ module _ (n : ℕ) where
   closed-answered : (p : Plain) (cs : List Call) → p .closed ≡ false → afterCalls edition1 n p cs .closed ≡ true → CloseAnswered cs (answersOf edition1 n p cs)
   closed-answered p [] h c = clash _ c h
   closed-answered p (keepShot s q ∷ cs) h c = closed-answered _ cs (keep-open p s q h) c
-  closed-answered p (dropShot ∷ cs) h c = closed-answered _ cs (drop-open p h) c
+  closed-answered p (dropShot way ∷ cs) h c = closed-answered _ cs (drop-open p way h) c
   closed-answered p (closeBurst ∷ cs) h c =
       zero-or-not (numberOf edition1 n p closeBurst) _
       (λ e. inl (answer-number p closeBurst ∙ e))

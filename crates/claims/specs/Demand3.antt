@@ -1,4 +1,4 @@
--- Demand 3, over whole lists of calls (01, "Recorder", "Reader"): a begin, then keep, drop and close in any order, refused ones among them.
+-- Demand 3, over whole lists of calls (01, "Recorder", "Reader"): a begin, then keep, drop (by value or in place) and close in any order, refused ones among them.
 --   agrees      numbers, shot numbers and totals equal those of the plain burst, and after an accepted close the front of the buffer is its file
 --   answered    an accepted close is one that was answered 0
 --   one-burst   no file belongs to two bursts under its key
@@ -32,7 +32,7 @@ abbrev pub CloseAnswered : List Call → List Answer → Type 0
 CloseAnswered [] answers = ⊥
 CloseAnswered (c ∷ cs) [] = ⊥
 CloseAnswered (keepShot s p ∷ cs) (a ∷ answers) = CloseAnswered cs answers
-CloseAnswered (dropShot ∷ cs) (a ∷ answers) = CloseAnswered cs answers
+CloseAnswered (dropShot way ∷ cs) (a ∷ answers) = CloseAnswered cs answers
 CloseAnswered (closeBurst ∷ cs) (a ∷ answers) = (a .number ≡ 0) ⊎ CloseAnswered cs answers
 
 abbrev pub rest : List Answer → List Answer
@@ -61,7 +61,7 @@ OneBurst = (l l′ : CallList) → Numbered l → Numbered l′ → Reached l �
 abbrev pub TypedCalls : List Call → Type 0
 TypedCalls [] = Unit {0}
 TypedCalls (keepShot s p ∷ cs) = (AllBytes s × AllBytes p) × TypedCalls cs
-TypedCalls (dropShot ∷ cs) = TypedCalls cs
+TypedCalls (dropShot way ∷ cs) = TypedCalls cs
 TypedCalls (closeBurst ∷ cs) = TypedCalls cs
 
 pub record Typed (l : CallList) : Type 0 where

@@ -16,7 +16,7 @@ use Rattle.icepole.specs.Variants.{sizes}
 use Rattle.icepole.specs.Answers.{sealNumber, openNumber}
 use Rattle.burst.specs.Layout.{edition1, nonceOf, closingOffset}
 use Rattle.burst.specs.Numbers.{beginNumber, keepNumber, dropNumber}
-use Rattle.burst.specs.Plain.{pictures, Plain, keepShot, dropShot, closeBurst, CallList, Answer, usedOf, totalOf, headerOf, indexOf, plainOf, plainAnswers}
+use Rattle.burst.specs.Plain.{pictures, Plain, byValue, inPlace, keepShot, dropShot, closeBurst, CallList, Answer, usedOf, totalOf, headerOf, indexOf, plainOf, plainAnswers}
 
 -- the state with S[x][y] = w and zeros elsewhere
 abbrev pub only : ℕ → ℕ → ℕ → State
@@ -36,7 +36,7 @@ list7 = record {
   key = replicate 16 0;
   identity = record { burstNumber = 7; siteMark = replicate 16 0 };
   bufferLength = 111;
-  calls = dropShot ∷ keepShot (replicate 16 0) (replicate 3 0) ∷ dropShot ∷ closeBurst ∷ [];
+  calls = dropShot byValue ∷ keepShot (replicate 16 0) (replicate 3 0) ∷ dropShot inPlace ∷ closeBurst ∷ [];
 }
 
 abbrev pub burst7 : Plain
@@ -48,7 +48,7 @@ list60 = record {
   key = replicate 16 0;
   identity = record { burstNumber = 7; siteMark = replicate 16 0 };
   bufferLength = 64;
-  calls = replicate 61 dropShot ++ (closeBurst ∷ dropShot ∷ []);
+  calls = replicate 61 (dropShot byValue) ++ (closeBurst ∷ dropShot inPlace ∷ []);
 }
 
 -- each answer as its number, mark and value

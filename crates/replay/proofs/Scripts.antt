@@ -18,7 +18,7 @@ use Rattle.icepole.specs.Sealing.{pick}
 use Rattle.burst.specs.declared.Recorder.{Recorder}
 use Rattle.burst.specs.declared.ShotAnswer.{ShotAnswer}
 use Rattle.burst.specs.declared.Closed.{Closed}
-use Rattle.burst.specs.Plain.{Call, keepShot, dropShot, closeBurst, Answer}
+use Rattle.burst.specs.Plain.{byValue, Call, keepShot, dropShot, closeBurst, Answer}
 use Rattle.burst.specs.Recorder.{keepAnswer, keepBuffer, dropAnswer, closeAnswer, closeBuffer}
 use Rattle.trace.specs.Trace.{nextRecorder, nextBuffer, answerTo, answersFrom, bufferFrom}
 use Rattle.replay.specs.declared.Step.{Step}
@@ -36,7 +36,7 @@ module _ (s : Bytes) where
   first-end h = simp (eq-eqb (length s) 0 h)
 
   module _ (hs : length s ≡ 0 → ⊥) where
-    pub first-drop : leAt 1 s 0 ≡ 0 → firstCall s ≡ some (dropShot, 1)
+    pub first-drop : leAt 1 s 0 ≡ 0 → firstCall s ≡ some (dropShot byValue, 1)
     unfolding firstCall
     first-drop h = simp (ne-eqb (length s) 0 hs, eq-eqb (leAt 1 s 0) 0 h)
 
@@ -68,7 +68,7 @@ unfolding firstCall
 first-fits s x h =
     let h₁ = not-none (eqb (length s) 0) _ x h in
     let l : length s ≡ 0 → ⊥ = eqb-false _ _ (h₁ .0) in
-    third l (this-or (eqb (leAt 1 s 0) 0) (dropShot, 1) _ x (h₁ .1))
+    third l (this-or (eqb (leAt 1 s 0) 0) (dropShot byValue, 1) _ x (h₁ .1))
   where
     fifth : (length s ≡ 0 → ⊥) → pick (ltb (length s) (keepLength s)) none (some (keepShot (take (stampLength s) (drop 6 s)) (take (pictureLength s) (drop (6 + stampLength s) s)), keepLength s)) ≡ some x → x .1 ≤ length s
     fifth l g =
@@ -81,7 +81,7 @@ first-fits s x h =
     fourth l (inl e) = let m : 1 ≡ x .1 = ap (λ (y : Call × ℕ). y .1) e in omega arith
     fourth l (inr g) = fifth l g
 
-    third : (length s ≡ 0 → ⊥) → (_≡_ {A = Call × ℕ} (dropShot, 1) x) ⊎ (pick (eqb (leAt 1 s 0) 1) (some (closeBurst, 1)) (pick (ltb (length s) (keepLength s)) none (some (keepShot (take (stampLength s) (drop 6 s)) (take (pictureLength s) (drop (6 + stampLength s) s)), keepLength s))) ≡ some x) → x .1 ≤ length s
+    third : (length s ≡ 0 → ⊥) → (_≡_ {A = Call × ℕ} (dropShot byValue, 1) x) ⊎ (pick (eqb (leAt 1 s 0) 1) (some (closeBurst, 1)) (pick (ltb (length s) (keepLength s)) none (some (keepShot (take (stampLength s) (drop 6 s)) (take (pictureLength s) (drop (6 + stampLength s) s)), keepLength s))) ≡ some x) → x .1 ≤ length s
     third l (inl e) = let m : 1 ≡ x .1 = ap (λ (y : Call × ℕ). y .1) e in omega arith
     third l (inr g) = fourth l (this-or (eqb (leAt 1 s 0) 1) (closeBurst, 1) _ x g)
 
@@ -179,7 +179,7 @@ module _ (r : Recorder) (b script : Bytes) (position : ℕ) where
         → Does (record { more = true; next = position + 1; refusal = k .refusal; value = k .shot .0; recorder = k .recorder }) b
     unfolding answerTo nextRecorder nextBuffer
     drop-here h k e =
-        by-some (dropShot, 1) (first-drop here some-here (here-kind ∙ h)) _ b
+        by-some (dropShot byValue, 1) (first-drop here some-here (here-kind ∙ h)) _ b
         (ap (λ (y : ShotAnswer). let st : Step = record { more = true; next = position + 1; refusal = y .refusal; value = y .shot .0; recorder = y .recorder } in st) e) refl
 
     pub close-here : leAt 1 script position ≡ 1 → (k : Closed) (b′ : Bytes) → k ≡ closeAnswer r b → b′ ≡ closeBuffer r b

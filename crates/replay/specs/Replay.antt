@@ -11,7 +11,7 @@ use Rattle.bytes_le.specs.Bytes.{Bytes, putBytes, le, leAt}
 use Rattle.icepole.specs.Sealing.{pick}
 use Rattle.burst.specs.declared.Recorder.{Recorder}
 use Rattle.burst.specs.Layout.{edition1, Identity}
-use Rattle.burst.specs.Plain.{Call, keepShot, dropShot, closeBurst, CallList, Answer, plainOf, plainAnswers, totalOf, fileOf}
+use Rattle.burst.specs.Plain.{byValue, Call, keepShot, dropShot, closeBurst, CallList, Answer, plainOf, plainAnswers, totalOf, fileOf}
 use Rattle.trace.specs.Trace.{nextRecorder, nextBuffer, answerTo, runBuffer}
 use Rattle.trace.specs.Agreement.{Reached}
 use Rattle.replay.specs.declared.Step.{Step}
@@ -31,7 +31,7 @@ keepLength s = 6 + (stampLength s + pictureLength s)
 unfoldable pub firstCall : Bytes → Option (Call × ℕ)
 firstCall s =
     pick (eqb (length s) 0) none
-    (pick (eqb (leAt 1 s 0) 0) (some (dropShot, 1))
+    (pick (eqb (leAt 1 s 0) 0) (some (dropShot byValue, 1))
     (pick (eqb (leAt 1 s 0) 1) (some (closeBurst, 1))
     (pick (ltb (length s) (keepLength s)) none
     (some (keepShot (take (stampLength s) (drop 6 s)) (take (pictureLength s) (drop (6 + stampLength s) s)), keepLength s)))))

@@ -19,7 +19,7 @@ use Rattle.burst.specs.declared.Recorder.{Recorder}
 use Rattle.burst.specs.Layout.{edition1, Identity, recordBytes, closingSeal}
 use Rattle.burst.specs.Numbers.{totalFrom, beginNumber}
 use Rattle.burst.specs.Index.{entryOf, indexRules, indexBytes}
-use Rattle.burst.specs.Plain.{Shot, kept, gap, pictures, gaps, usedBy, records, index, Plain, noBurst, totalOf, headerOf, indexOf, fileOf, Call, keepShot, dropShot, closeBurst, CallList, Answer, numberOf, accepted, valueOf, afterCall, answerOf, afterCalls, answersOf, begun, plainOf, plainAnswers, beginRefusal}
+use Rattle.burst.specs.Plain.{Shot, kept, gap, pictures, gaps, usedBy, records, index, Plain, noBurst, totalOf, headerOf, indexOf, fileOf, Way, Call, keepShot, dropShot, closeBurst, CallList, Answer, numberOf, accepted, valueOf, afterCall, answerOf, afterCalls, answersOf, begun, plainOf, plainAnswers, beginRefusal}
 use Rattle.burst.specs.Recorder.{isSound, newRecorder, noRecorder, beginRefused, beginAnswer, beginBuffer, afterDrop, dropRefused, dropAnswer, afterKeep, keepRefused, keepAnswer, keepBuffer, recorderHeader, recorderIndex, recorderSeal, afterClose, closeRefused, closeAnswer, closeBuffer}
 use Rattle.burst.proofs.Rules.{clash, refuted, sounds, sound-is}
 use Rattle.burst.proofs.Numbers.{Keeps, keeps, drops, closes, keep-8, drop-8, close-8, begins}
@@ -67,9 +67,9 @@ module _ (n : ℕ) (p : Plain) (r : Recorder) (b : Bytes) (l : Live n p r b) whe
   unfolding keepRefused numberOf
   keep-number s q = cc (live-sound, l .taken, l .kept, l .used, l .room)
 
-  drop-number : dropRefused r ≡ numberOf edition1 n p dropShot
+  drop-number : (way : Way) → dropRefused r ≡ numberOf edition1 n p (dropShot way)
   unfolding dropRefused numberOf
-  drop-number = cc (live-sound, l .taken)
+  drop-number way = cc (live-sound, l .taken)
 
   close-number : closeRefused r b ≡ numberOf edition1 n p closeBurst
   unfolding closeRefused numberOf
@@ -125,9 +125,9 @@ module _ (n : ℕ) (p : Plain) (r : Recorder) (b : Bytes) (l : Live n p r b) whe
             ∙ sym (records-append (p .key) (p .identity .burstNumber) 1 32 xs (kept s q ∷ [])));
       }
 
-  drop-live : numberOf edition1 n p dropShot ≡ 0 → Live n (with p (p .shots ++ (gap ∷ [])) (p .closed)) (afterDrop r) b
+  drop-live : (way : Way) → numberOf edition1 n p (dropShot way) ≡ 0 → Live n (with p (p .shots ++ (gap ∷ [])) (p .closed)) (afterDrop r) b
   unfolding afterDrop numberOf
-  drop-live z =
+  drop-live way z =
       let w = drops _ _ z in
       let xs = p .shots in
       let e₁ = l .taken in
@@ -226,7 +226,7 @@ module _ (n : ℕ) (p : Plain) (r : Recorder) (b : Bytes) (o : Off p r) where
   plain-8 : (c : Call) → numberOf edition1 n p c ≡ 8
   unfolding numberOf
   plain-8 (keepShot s q) = sym (keep-8 _ _ _ _ _ _ _ no-plain)
-  plain-8 dropShot = sym (drop-8 _ _ no-plain)
+  plain-8 (dropShot way) = sym (drop-8 _ _ no-plain)
   plain-8 closeBurst = sym (close-8 _ _ _ _ no-plain)
 
   off-plain : (c : Call) → afterCall edition1 n p c ≡ p
@@ -236,19 +236,19 @@ module _ (n : ℕ) (p : Plain) (r : Recorder) (b : Bytes) (o : Off p r) where
   off-answer : (c : Call) → answerTo r b c ≡ answerOf edition1 n p c
   unfolding answerTo answerOf keepAnswer dropAnswer closeAnswer keepRefused dropRefused closeRefused
   off-answer (keepShot s q) = simp (plain-8 (keepShot s q), sym (keep-8 _ (r .taken .0) (r .kept .0) (r .used) (length s) (length q) (length b) (o .shut-r)))
-  off-answer dropShot = simp (plain-8 dropShot, sym (drop-8 _ (r .taken .0) (o .shut-r)))
+  off-answer (dropShot way) = simp (plain-8 (dropShot way), sym (drop-8 _ (r .taken .0) (o .shut-r)))
   off-answer closeBurst = simp (plain-8 closeBurst, sym (close-8 _ (r .kept .0) (r .used) (length b) (o .shut-r)))
 
   off-recorder : (c : Call) → nextRecorder r b c ≡ r
   unfolding nextRecorder keepAnswer dropAnswer closeAnswer keepRefused dropRefused closeRefused
   off-recorder (keepShot s q) = simp (sym (keep-8 _ (r .taken .0) (r .kept .0) (r .used) (length s) (length q) (length b) (o .shut-r)))
-  off-recorder dropShot = simp (sym (drop-8 _ (r .taken .0) (o .shut-r)))
+  off-recorder (dropShot way) = simp (sym (drop-8 _ (r .taken .0) (o .shut-r)))
   off-recorder closeBurst = simp (sym (close-8 _ (r .kept .0) (r .used) (length b) (o .shut-r)))
 
   off-buffer : (c : Call) → nextBuffer r b c ≡ b
   unfolding nextBuffer keepBuffer closeBuffer keepRefused closeRefused
   off-buffer (keepShot s q) = simp (sym (keep-8 _ (r .taken .0) (r .kept .0) (r .used) (length s) (length q) (length b) (o .shut-r)))
-  off-buffer dropShot = refl
+  off-buffer (dropShot way) = refl
   off-buffer closeBurst = simp (sym (close-8 _ (r .kept .0) (r .used) (length b) (o .shut-r)))
 
 record Same (n : ℕ) (p : Plain) (r : Recorder) (b : Bytes) (cs : List Call) : Type 0 where
@@ -301,15 +301,15 @@ module _ (n : ℕ) (p : Plain) (r : Recorder) (b : Bytes) (l : Live n p r b) whe
             (goes-on n (numberOf edition1 n p (keepShot s q)) p _ r _ b _ _ refl (λ z. inl (keep-live n p r b l s q z)) (inl l));
       }
 
-  drop-step : Step n p r b dropShot
+  drop-step : (way : Way) → Step n p r b (dropShot way)
   unfolding answerTo nextRecorder nextBuffer dropAnswer answerOf afterCall valueOf accepted
-  drop-step =
-      let e = drop-number n p r b l in
+  drop-step way =
+      let e = drop-number n p r b l way in
       record {
         answer = ap₂ (λ (k t : ℕ). told k (t + 1)) e (l .taken);
         next =
-            subst (λ (k : ℕ). Next n (afterCall edition1 n p dropShot) (pick (eqb k 0) (afterDrop r) r) b) (sym e)
-            (both-same n (numberOf edition1 n p dropShot) p _ r _ b _ refl (λ z. inl (drop-live n p r b l z)) (inl l));
+            subst (λ (k : ℕ). Next n (afterCall edition1 n p (dropShot way)) (pick (eqb k 0) (afterDrop r) r) b) (sym e)
+            (both-same n (numberOf edition1 n p (dropShot way)) p _ r _ b _ refl (λ z. inl (drop-live n p r b l way z)) (inl l));
       }
     where
       both-same : (n num : ℕ) (p p′ : Plain) (r r′ : Recorder) (b : Bytes) (z : Bool) → eqb num 0 ≡ z → (num ≡ 0 → Next n p′ r′ b) → Next n p r b → Next n (pick z p′ p) (pick z r′ r) b
@@ -342,7 +342,7 @@ module _ (n : ℕ) (p : Plain) (r : Recorder) (b : Bytes) (l : Live n p r b) whe
 
   step : (c : Call) → Step n p r b c
   step (keepShot s q) = keep-step s q
-  step dropShot = drop-step
+  step (dropShot way) = drop-step way
   step closeBurst = close-step
 
 -- ---- the calls after begin

@@ -1,4 +1,4 @@
--- A list of calls run on a recorder and a buffer: each call is given the recorder that the call before returned (01, "Recorder"). What a call answers and leaves is what its contract states.
+-- A list of calls run on a recorder and a buffer: each call is given the recorder that the call before returned, or left in the lent one (01, "Recorder"). What a call answers and leaves is what its contract states.
 -- Assumes nothing.
 use mathlib.Core.List.{List, [], _∷_}
 use Prim.Native.Nat.{ℕ}
@@ -12,12 +12,13 @@ use Rattle.burst.specs.Recorder.{beginAnswer, beginBuffer, keepAnswer, keepBuff
 -- ---- one call
 unfoldable pub nextRecorder : Recorder → Bytes → Call → Recorder
 nextRecorder r b (keepShot s p) = keepAnswer r s p b .recorder
-nextRecorder r b dropShot = dropAnswer r .recorder
+-- in place: what is left in the lent recorder (`recorder_ref::drop_in_place`) is what the drop by value returns
+nextRecorder r b (dropShot way) = dropAnswer r .recorder
 nextRecorder r b closeBurst = closeAnswer r b .recorder
 
 unfoldable pub nextBuffer : Recorder → Bytes → Call → Bytes
 nextBuffer r b (keepShot s p) = keepBuffer r s p b
-nextBuffer r b dropShot = b
+nextBuffer r b (dropShot way) = b
 nextBuffer r b closeBurst = closeBuffer r b
 
 abbrev pub shotTold : ShotAnswer → Answer
@@ -28,7 +29,7 @@ totalTold a = record { number = a .refusal; mark = a .mark; value = a .total }
 
 unfoldable pub answerTo : Recorder → Bytes → Call → Answer
 answerTo r b (keepShot s p) = shotTold (keepAnswer r s p b)
-answerTo r b dropShot = shotTold (dropAnswer r)
+answerTo r b (dropShot way) = shotTold (dropAnswer r)
 answerTo r b closeBurst = totalTold (closeAnswer r b)
 
 -- ---- the calls after begin
