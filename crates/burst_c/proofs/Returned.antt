@@ -1,21 +1,23 @@
 -- What the C calls of the reader return and write, from the answers of the calls below them.
 -- Assumes nothing.
-use mathlib.Core.Bool.{Bool, true, false, not, _||_}
+use mathlib.Core.Bool.{Bool, not}
 use mathlib.Core.List.{List, [], _∷_, _++_, append-assoc}
 use mathlib.Core.Path.{_≡_, refl, sym, ap, ap₂, _∙_}
 use Prim.Native.Nat.{ℕ, zero, suc, _+_, _-_, _≤_, _<_}
 use native.Mathlib.Omega.{arith}
-use borrow.Author.Tests.{ne-eqb, lt-ltb, le-ltb, lt-leb}
-use lib.Dec.{eqb, leb, ltb}
+use borrow.Author.Tests.{ne-eqb, lt-ltb, le-ltb}
+use lib.Dec.{eqb, ltb}
 use lib.ListN.{length, take, drop, length-append, length-drop}
 use lib.Seq.{length-take-le}
 use Rattle.bytes_le.specs.Bytes.{Bytes, putBytes, le}
 use Rattle.icepole.specs.Sealing.{pick}
 use Rattle.burst.proofs.Puts.{grow}
-use Rattle.reader.specs.Front.{takenIn, keptIn, droppedIn, burstNumberIn, indexOffsetIn, entryAt, positionOf}
-use Rattle.reader.specs.Reader.{closingPart, recordPart, secretIn, messageIn, checkNumber, recordNumber, recordOffset, recordBytesIn, fetchNumber, fetchOutput}
-use Rattle.reader.proofs.Answers.{Found, record-refused, record-done}
-use Rattle.burst_c.specs.Calls.{checkCallNumber, checkCallInfo, fetchCallNumber, fetchCallOutput, fetchCallInfo}
+use Rattle.reader.specs.declared.Checked.{Checked}
+use Rattle.reader.specs.declared.Fetched.{Fetched}
+use Rattle.reader.specs.Front.{entryAt, positionOf}
+use Rattle.reader.specs.Reader.{checkAnswer, recordNumber, recordOffset, recordBytesIn, fetchNumber, fetchAnswer, fetchOutput}
+use Rattle.reader.proofs.Answers.{Found, record-refused, record-done, fetch-stands}
+use Rattle.burst_c.specs.Calls.{checkedBytes, fetchedBytes, checkCallNumber, checkCallInfo, fetchCallNumber, fetchCallOutput, fetchCallInfo}
 
 -- ---- the info's fields, one behind the other
 pub check-put : (l h₁ h₂ h₃ h₄ h₅ s : Bytes) (i₁ i₂ i₃ i₄ b t k d : ℕ) → 30 ≤ length l → length s ≡ 16
@@ -42,27 +44,28 @@ fetch-put l h₁ h₂ h₃ s i₁ i₂ n m h hs e₁ g₁ e₂ g₂ e₃ =
     grow l h₂ h₃ (le 2 n ++ le 4 m) s 0 i₂ (grow l h₁ h₂ (le 2 n) (le 4 m) 0 i₁ e₁ e₂ g₁ (omega arith)) e₃ (omega arith) (omega arith)
 
 -- ---- check
-module _ (key f info : Bytes) where
-  pub check-refused : (num : ℕ) → num ≡ checkNumber key f → (num ≡ 0 → ⊥) → (num ≡ checkCallNumber key f info) × (info ≡ checkCallInfo key f info)
-  unfolding checkCallInfo checkCallNumber
-  check-refused num e h = let w = ne-eqb num 0 h in (sym (simp (sym e, w)), sym (simp (sym e, w)))
+module _ (key f info : Bytes) (c : Checked) (is : c ≡ checkAnswer key f) where
+  number-is : checkAnswer key f .refusal ≡ c .refusal
+  number-is = ap (λ (x : Checked). x .refusal) (sym is)
 
-  module _ (z : checkNumber key f ≡ 0) where
+  pub check-refused : (c .refusal ≡ 0 → ⊥) → (c .refusal ≡ checkCallNumber key f info) × (info ≡ checkCallInfo key f info)
+  unfolding checkCallInfo checkCallNumber
+  check-refused h = let w = ne-eqb (c .refusal) 0 h in (sym (simp (number-is, w)), sym (simp (number-is, w)))
+
+  module _ (z : c .refusal ≡ 0) where
+    none : checkAnswer key f .refusal ≡ 0
+    none = number-is ∙ z
+
     pub check-short : length info < 30 → (5 ≡ checkCallNumber key f info) × (info ≡ checkCallInfo key f info)
     unfolding checkCallInfo checkCallNumber
-    check-short h = (sym (simp (z, lt-ltb (length info) 30 h)), sym (simp (z, lt-ltb (length info) 30 h)))
+    check-short h = (sym (simp (none, lt-ltb (length info) 30 h)), sym (simp (none, lt-ltb (length info) 30 h)))
 
-    pub check-done : 30 ≤ length info → (s : Bytes) (b t k d : ℕ) → b ≡ burstNumberIn f → s ≡ secretIn key f (closingPart f) → t ≡ takenIn f → k ≡ keptIn f → d ≡ droppedIn f
-        → (info′ : Bytes) → info′ ≡ putBytes info 0 (le 8 b ++ (s ++ (le 2 t ++ (le 2 k ++ le 2 d))))
+    pub check-done : 30 ≤ length info → (info′ : Bytes) → info′ ≡ putBytes info 0 (checkedBytes c)
         → (0 ≡ checkCallNumber key f info) × (info′ ≡ checkCallInfo key f info)
     unfolding checkCallInfo checkCallNumber
-    check-done h s b t k d eb es et ek ed info′ e = (
-      sym (simp (z, le-ltb (length info) 30 h)),
-      e
-          ∙ ap₂ (λ (n : ℕ) (x : Bytes). putBytes info 0 (le 8 n ++ (x ++ (le 2 t ++ (le 2 k ++ le 2 d))))) eb es
-          ∙ ap₂ (λ (i j : ℕ). putBytes info 0 (le 8 (burstNumberIn f) ++ (secretIn key f (closingPart f) ++ (le 2 i ++ (le 2 j ++ le 2 d))))) et ek
-          ∙ ap (λ (i : ℕ). putBytes info 0 (le 8 (burstNumberIn f) ++ (secretIn key f (closingPart f) ++ (le 2 (takenIn f) ++ (le 2 (keptIn f) ++ le 2 i))))) ed
-          ∙ sym (simp (z, le-ltb (length info) 30 h)),
+    check-done h info′ e = (
+      sym (simp (none, le-ltb (length info) 30 h)),
+      e ∙ ap (λ (x : Checked). putBytes info 0 (checkedBytes x)) is ∙ sym (simp (none, le-ltb (length info) 30 h)),
     )
 
 -- ---- fetch
@@ -74,48 +77,50 @@ module _ (key f : Bytes) (place : ℕ) (out info : Bytes) where
   unfolding fetchCallOutput fetchCallInfo
   stays num e h = let w = ne-eqb num 0 h in (sym e, sym (simp (e, w)), sym (simp (e, w)))
 
-  beyond : (a b : Bool) (n rest num : ℕ) → pick a n (pick b 13 0) ≡ suc num → pick a n (pick b 13 rest) ≡ suc num
-  beyond true b n rest num h = h
-  beyond false true n rest num h = h
-  beyond false false n rest num h = absurd (omega arith)
-
-  by-record : (num : ℕ) → recordNumber key f place ≡ suc num → fetchCallNumber key f place out info ≡ suc num
-  unfolding recordNumber fetchCallNumber
-  by-record num h = beyond (not (eqb (checkNumber key f) 0)) (leb (keptIn f) place) (checkNumber key f) _ num h
-
   pub fetch-located : (num : ℕ) → num ≡ recordNumber key f place → (num ≡ 0 → ⊥) → Stays num
-  fetch-located zero e h = absurd (h refl)
-  fetch-located (suc num) e h = stays (suc num) (by-record num (sym e)) h
-
-  pub fetch-short : Found key f place → length info < 22 → Stays 5
   unfolding fetchCallNumber
-  fetch-short w h = stays 5 (simp (w .zero, lt-leb (keptIn f) place (w .below), lt-ltb (length info) 22 h)) (λ e. omega arith)
+  fetch-located num e h = stays num (simp (sym e, ne-eqb num 0 h)) h
 
-  module _ (h : 22 ≤ length info) where
-    same-number : fetchCallNumber key f place out info ≡ fetchNumber key f place out
-    unfolding fetchCallNumber fetchNumber
-    same-number = simp (le-ltb (length info) 22 h)
+  pub fetch-short : recordNumber key f place ≡ 0 → length info < 22 → Stays 5
+  unfolding fetchCallNumber
+  fetch-short z h = stays 5 (simp (z, lt-ltb (length info) 22 h)) (λ e. omega arith)
 
-    same-output : fetchOutput key f place out ≡ fetchCallOutput key f place out info
-    unfolding fetchOutput fetchCallOutput
-    same-output = simp same-number
+  module _ (h : 22 ≤ length info) (r : Fetched) (is : r ≡ fetchAnswer key f place out) where
+    answer-number : fetchAnswer key f place out .refusal ≡ r .refusal
+    answer-number = ap (λ (x : Fetched). x .refusal) (sym is)
 
-    pub fetch-refused : (num : ℕ) → num ≡ fetchNumber key f place out → (num ≡ 0 → ⊥) → (out′ : Bytes) → out′ ≡ fetchOutput key f place out
-        → (num ≡ fetchCallNumber key f place out info) × (out′ ≡ fetchCallOutput key f place out info) × (info ≡ fetchCallInfo key f place out info)
-    fetch-refused num e n out′ g = let w = stays num (same-number ∙ sym e) n in (w .0, g ∙ same-output, w .2)
+    fetch-number : fetchNumber key f place out ≡ r .refusal
+    unfolding fetchAnswer
+    fetch-number = answer-number
 
-    pub fetch-done : fetchNumber key f place out ≡ 0 → (n m : ℕ) (s : Bytes) → n ≡ entryAt f (positionOf f place) .shot .0 → m ≡ entryAt f (positionOf f place) .length → s ≡ secretIn key f (recordPart f (positionOf f place))
-        → (out′ info′ : Bytes) → out′ ≡ fetchOutput key f place out → info′ ≡ putBytes info 0 (le 2 n ++ (le 4 m ++ s))
+    -- a number, or 0
+    whole : (n : ℕ) → pick (not (eqb n 0)) n 0 ≡ n
+    whole zero = refl
+    whole (suc n) = simp (ne-eqb (suc n) 0 (λ i. omega arith))
+
+    by-number : (m : ℕ) → recordNumber key f place ≡ m → fetchCallNumber key f place out info ≡ r .refusal
+    unfolding fetchCallNumber
+    by-number zero e = simp (e, le-ltb (length info) 22 h, answer-number) (whole (r .refusal))
+    by-number (suc m) e =
+        simp (e, ne-eqb (suc m) 0 (λ i. omega arith)) (sym (fetch-stands key f place out m e) ∙ fetch-number)
+
+    same-number : fetchCallNumber key f place out info ≡ r .refusal
+    same-number = by-number (recordNumber key f place) refl
+
+    pub fetch-refused : (r .refusal ≡ 0 → ⊥) → (out′ : Bytes) → out′ ≡ fetchOutput key f place out
+        → (r .refusal ≡ fetchCallNumber key f place out info) × (out′ ≡ fetchCallOutput key f place out info) × (info ≡ fetchCallInfo key f place out info)
+    unfolding fetchOutput
+    fetch-refused n out′ g =
+        let w = stays (r .refusal) same-number n in
+        let o : fetchOutput key f place out ≡ out = simp (fetch-number, ne-eqb (r .refusal) 0 n) in
+        (w .0, g ∙ o ∙ w .1, w .2)
+
+    pub fetch-done : r .refusal ≡ 0 → (out′ info′ : Bytes) → out′ ≡ fetchOutput key f place out → info′ ≡ putBytes info 0 (fetchedBytes r)
         → (0 ≡ fetchCallNumber key f place out info) × (out′ ≡ fetchCallOutput key f place out info) × (info′ ≡ fetchCallInfo key f place out info)
-    unfolding fetchCallInfo
-    fetch-done z n m s en em es out′ info′ eo ei = (
-      sym (same-number ∙ z),
-      eo ∙ same-output,
-      ei
-          ∙ ap₂ (λ (i j : ℕ). putBytes info 0 (le 2 i ++ (le 4 j ++ s))) en em
-          ∙ ap (λ (x : Bytes). putBytes info 0 (le 2 (entryAt f (positionOf f place) .shot .0) ++ (le 4 (entryAt f (positionOf f place) .length) ++ x))) es
-          ∙ sym (simp (same-number ∙ z)),
-    )
+    unfolding fetchCallOutput fetchCallInfo
+    fetch-done z out′ info′ eo ei =
+        let e = same-number ∙ z in
+        (sym e, eo ∙ sym (simp e), ei ∙ ap (λ (x : Fetched). putBytes info 0 (fetchedBytes x)) is ∙ sym (simp e))
 
 -- ---- record
 module _ (key f : Bytes) (place : ℕ) where

@@ -1,40 +1,55 @@
--- What the C calls of include/burst.h return and write.
+-- What the C calls of include/burst.h return and write, over the answers of the reader's calls.
 -- Assumes nothing.
-use mathlib.Core.Bool.{Bool, not, _||_}
+use mathlib.Core.Bool.{Bool, not}
 use mathlib.Core.List.{List, [], _∷_, _++_}
 use Prim.Native.Nat.{ℕ}
-use lib.Dec.{eqb, leb, ltb}
+use lib.Dec.{eqb, ltb}
 use lib.ListN.{length}
 use Rattle.bytes_le.specs.Bytes.{Bytes, putBytes, le}
 use Rattle.icepole.specs.Answers.{refusal, _when_, unless}
-use Rattle.reader.specs.Front.{takenIn, keptIn, droppedIn, burstNumberIn, entryAt, positionOf}
-use Rattle.reader.specs.Reader.{closingPart, recordPart, secretIn, messageIn, checkNumber, recordNumber}
+use Rattle.reader.specs.declared.Checked.{Checked}
+use Rattle.reader.specs.declared.Fetched.{Fetched}
+use Rattle.reader.specs.Reader.{checkAnswer, recordNumber, fetchAnswer, fetchOutput}
 
--- ---- check: the info holds burst number, site mark, taken, kept and dropped
+-- ---- the infos as bytes
+abbrev pub checkInfoLength : ℕ
+checkInfoLength = 30
+
+-- burst number (8), site mark (16), taken (2), kept (2), dropped (2)
+abbrev pub checkedBytes : Checked → Bytes
+checkedBytes c = le 8 (c .«burst_number») ++ (c .«site_mark» ++ (le 2 (c .taken) ++ (le 2 (c .kept) ++ le 2 (c .dropped))))
+
+abbrev pub fetchInfoLength : ℕ
+fetchInfoLength = 22
+
+-- shot number (2), picture length (4), stamp (16)
+abbrev pub fetchedBytes : Fetched → Bytes
+fetchedBytes r = le 2 (r .shot .0) ++ (le 4 (r .length) ++ r .stamp)
+
+-- ---- check's numbers, then 5 for the info
 module _ (key f info : Bytes) where
   unfoldable pub checkCallNumber : ℕ
-  checkCallNumber = refusal ((checkNumber key f when not (eqb (checkNumber key f) 0)) ∷ (5 when ltb (length info) 30) ∷ [])
+  checkCallNumber =
+      refusal
+      ((checkAnswer key f .refusal when not (eqb (checkAnswer key f .refusal) 0))
+      ∷ (5 when ltb (length info) checkInfoLength)
+      ∷ [])
 
   unfoldable pub checkCallInfo : Bytes
-  checkCallInfo =
-      unless checkCallNumber info
-      (putBytes info 0 (le 8 (burstNumberIn f) ++ (secretIn key f (closingPart f) ++ (le 2 (takenIn f) ++ (le 2 (keptIn f) ++ le 2 (droppedIn f))))))
+  checkCallInfo = unless checkCallNumber info (putBytes info 0 (checkedBytes (checkAnswer key f)))
 
--- ---- fetch: the info holds shot number, picture length and stamp
+-- ---- check's numbers and 13, then 5 for the info, then what is left of fetch's: 5 for the output
 module _ (key f : Bytes) (place : ℕ) (out info : Bytes) where
   unfoldable pub fetchCallNumber : ℕ
   fetchCallNumber =
       refusal
-      ((checkNumber key f when not (eqb (checkNumber key f) 0))
-      ∷ (13 when leb (keptIn f) place)
-      ∷ (5 when (ltb (length info) 22 || ltb (length out) (entryAt f (positionOf f place) .length)))
+      ((recordNumber key f place when not (eqb (recordNumber key f place) 0))
+      ∷ (5 when ltb (length info) fetchInfoLength)
+      ∷ (fetchAnswer key f place out .refusal when not (eqb (fetchAnswer key f place out .refusal) 0))
       ∷ [])
 
   unfoldable pub fetchCallOutput : Bytes
-  fetchCallOutput = unless fetchCallNumber out (putBytes out 0 (messageIn key f (recordPart f (positionOf f place))))
+  fetchCallOutput = unless fetchCallNumber out (fetchOutput key f place out)
 
   unfoldable pub fetchCallInfo : Bytes
-  fetchCallInfo =
-      unless fetchCallNumber info
-      (putBytes info 0
-      (le 2 (entryAt f (positionOf f place) .shot .0) ++ (le 4 (entryAt f (positionOf f place) .length) ++ secretIn key f (recordPart f (positionOf f place)))))
+  fetchCallInfo = unless fetchCallNumber info (putBytes info 0 (fetchedBytes (fetchAnswer key f place out)))

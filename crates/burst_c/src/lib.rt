@@ -4,13 +4,12 @@ use icepole::OUTPUT_TOO_SHORT;
 use reader::Checked;
 use reader::Fetched;
 ghost use mathlib.Core.Path.{_≡_};
-ghost use mathlib.Core.List.{_++_};
 ghost use Prim.Native.Nat.{_≤_};
 ghost use lib.ListN.{length};
-ghost use Rattle.bytes_le.specs.Bytes.{putBytes, le};
+ghost use Rattle.bytes_le.specs.Bytes.{putBytes};
 ghost use Rattle.reader.specs.Reader.{checkMark, recordNumber, recordOffset, recordBytesIn};
 ghost use Rattle.replay.specs.Replay.{listOf, Replayed};
-ghost use Rattle.burst_c.specs.Calls.{checkCallNumber, checkCallInfo, fetchCallNumber, fetchCallOutput, fetchCallInfo};
+ghost use Rattle.burst_c.specs.Calls.{checkedBytes, fetchedBytes, checkCallNumber, checkCallInfo, fetchCallNumber, fetchCallOutput, fetchCallInfo};
 
 // Bytes of what check and fetch put into the info.
 const CHECK_INFO: usize = 30;
@@ -35,7 +34,7 @@ pub extern "C" fn burst_replay(
 
 fn put_checked(c: Checked, info: &mut [u8])
     requires { ⌜ 30 ≤ length (now info) ⌝ }
-    ensures { λ _. ⌜ now (info .exit) ≡ putBytes (now (info .entry)) 0 (le 8 (c .«burst_number») ++ (c .«site_mark» ++ (le 2 (c .taken) ++ (le 2 (c .kept) ++ le 2 (c .dropped))))) ⌝ }
+    ensures { λ _. ⌜ now (info .exit) ≡ putBytes (now (info .entry)) 0 (checkedBytes c) ⌝ }
 {
     let site_mark = c.site_mark;
     let i = bytes_le::store_le(info, 0, 8, c.burst_number);
@@ -66,7 +65,7 @@ pub extern "C" fn burst_check(key: &[u8], file: &[u8], mark: &mut u32, info: &mu
 
 fn put_fetched(r: Fetched, info: &mut [u8])
     requires { ⌜ 22 ≤ length (now info) ⌝ }
-    ensures { λ _. ⌜ now (info .exit) ≡ putBytes (now (info .entry)) 0 (le 2 (r .shot .0) ++ (le 4 (r .length) ++ r .stamp)) ⌝ }
+    ensures { λ _. ⌜ now (info .exit) ≡ putBytes (now (info .entry)) 0 (fetchedBytes r) ⌝ }
 {
     let shot = r.shot;
     let stamp = r.stamp;

@@ -92,18 +92,6 @@ module _ (key f : Bytes) (c : Checked) (is : c ≡ checkAnswer key f) where
     unfolding checkAnswer
     checked-kept = ap (λ (x : Checked). x .kept) is ∙ simp zero-is
 
-    pub checked-taken : c .taken ≡ takenIn f
-    unfolding checkAnswer
-    checked-taken = ap (λ (x : Checked). x .taken) is ∙ simp zero-is
-
-    pub checked-dropped : c .dropped ≡ droppedIn f
-    unfolding checkAnswer
-    checked-dropped = ap (λ (x : Checked). x .dropped) is ∙ simp zero-is
-
-    pub checked-site : c .«site_mark» ≡ secretIn key f (closingPart f)
-    unfolding checkAnswer
-    checked-site = ap (λ (x : Checked). x .«site_mark») is ∙ simp zero-is
-
     pub checked-burst : c .«burst_number» ≡ burstNumberIn f
     unfolding checkAnswer
     checked-burst = ap (λ (x : Checked). x .«burst_number») is ∙ simp zero-is
@@ -224,7 +212,7 @@ module _ (key f : Bytes) (place : ℕ) where
     beyond false true n rest num h = h
     beyond false false n rest num h = absurd (omega arith)
 
-    fetch-stands : (num : ℕ) → recordNumber key f place ≡ suc num → fetchNumber key f place out ≡ suc num
+    pub fetch-stands : (num : ℕ) → recordNumber key f place ≡ suc num → fetchNumber key f place out ≡ suc num
     unfolding recordNumber fetchNumber
     fetch-stands num h = beyond (not (eqb (checkNumber key f) 0)) (leb (keptIn f) place) (checkNumber key f) _ num h
 
@@ -260,26 +248,6 @@ module _ (key f : Bytes) (place : ℕ) where
 
     -- what fetch answers, field by field
     module _ (r : Fetched) (is : r ≡ fetchAnswer key f place out) where
-      pub fetched-number : r .refusal ≡ fetchNumber key f place out
-      unfolding fetchAnswer
-      fetched-number = ap (λ (x : Fetched). x .refusal) is
-
       pub fetched-mark : r .mark ≡ checkMark key f
       unfolding fetchAnswer
       fetched-mark = ap (λ (x : Fetched). x .mark) is
-
-      module _ (z : r .refusal ≡ 0) where
-        fetched-zero : fetchNumber key f place out ≡ 0
-        fetched-zero = sym fetched-number ∙ z
-
-        pub fetched-shot : r .shot .0 ≡ entryAt f (positionOf f place) .shot .0
-        unfolding fetchAnswer
-        fetched-shot = ap (λ (x : Fetched). x .shot .0) is ∙ simp fetched-zero
-
-        pub fetched-length : r .length ≡ entryAt f (positionOf f place) .length
-        unfolding fetchAnswer
-        fetched-length = ap (λ (x : Fetched). x .length) is ∙ simp fetched-zero
-
-        pub fetched-stamp : r .stamp ≡ secretIn key f (recordPart f (positionOf f place))
-        unfolding fetchAnswer
-        fetched-stamp = ap (λ (x : Fetched). x .stamp) is ∙ simp fetched-zero

@@ -1,9 +1,8 @@
 -- `burst_c::burst_check` meets its contract.
 -- Assumes nothing.
-use mathlib.Core.Path.{_≡_, sym, _∙_}
 use native.Mathlib.Omega.{arith}
 use borrow.Author.Needs.{needs}
-use Rattle.reader.proofs.Answers.{checked-number, checked-mark, checked-burst, checked-site, checked-taken, checked-kept, checked-dropped}
+use Rattle.reader.proofs.Answers.{checked-mark}
 use Rattle.burst_c.proofs.Returned.{check-refused, check-short, check-done}
 use Rattle.burst_c.proofs.burst_check.Statement.{statement}
 use Rattle.burst_c.proofs.burst_check.Tie as tie
@@ -12,23 +11,21 @@ returns : tie.Need-returns
 returns c =
     let a = c .before .before .before .before .before .before .args in
     let e = c .before .before .check .ensures in
-    let p = check-refused (a .key .now) (a .file .now) (a .info .now) _ (checked-number _ _ _ e) (c .if1 .taken) in
+    let p = check-refused (a .key .now) (a .file .now) (a .info .now) _ e (c .if1 .taken) in
     (p .0, checked-mark _ _ _ e, p .1)
 
 returns-2 : tie.Need-returns-2
 returns-2 c =
     let a = c .before .before .before .before .before .before .before .args in
     let e = c .before .before .before .check .ensures in
-    let p = check-short (a .key .now) (a .file .now) (a .info .now) (sym (checked-number _ _ _ e) ∙ c .before .if1 .left) (omega arith) in
+    let p = check-short (a .key .now) (a .file .now) (a .info .now) _ e (c .before .if1 .left) (omega arith) in
     (p .0, checked-mark _ _ _ e, p .1)
 
 returns-3 : tie.Need-returns-3
 returns-3 c =
     let a = c .before .before .before .before .before .before .before .before .before .before .before .args in
     let e = c .before .before .before .before .before .before .before .check .ensures in
-    let z = c .before .before .before .before .before .if1 .left in
-    let p = check-done (a .key .now) (a .file .now) (a .info .now) (sym (checked-number _ _ _ e) ∙ z) (omega (arith, c .before .before .before .before .if2)) _ _ _ _ _
-    (checked-burst _ _ _ e z) (checked-site _ _ _ e z) (checked-taken _ _ _ e z) (checked-kept _ _ _ e z) (checked-dropped _ _ _ e z) _ (c .before .before .put-checked .ensures) in
+    let p = check-done (a .key .now) (a .file .now) (a .info .now) _ e (c .before .before .before .before .before .if1 .left) (omega (arith, c .before .before .before .before .if2)) _ (c .before .before .put-checked .ensures) in
     (p .0, checked-mark _ _ _ e, p .1)
 
 pub burst-check-spec : {M : Type 1} → statement M

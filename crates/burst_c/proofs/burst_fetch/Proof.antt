@@ -3,7 +3,7 @@
 use mathlib.Core.Path.{_≡_, sym, _∙_}
 use native.Mathlib.Omega.{arith}
 use borrow.Author.Needs.{needs}
-use Rattle.reader.proofs.Answers.{located-number, located-mark, located-found, fetched-number, fetched-mark, fetched-shot, fetched-length, fetched-stamp}
+use Rattle.reader.proofs.Answers.{located-number, located-mark, fetched-mark}
 use Rattle.burst_c.proofs.Returned.{fetch-located, fetch-short, fetch-refused, fetch-done}
 use Rattle.burst_c.proofs.burst_fetch.Statement.{statement}
 use Rattle.burst_c.proofs.burst_fetch.Tie as tie
@@ -19,23 +19,21 @@ returns-2 : tie.Need-returns-2
 returns-2 c =
     let a = c .before .before .before .before .before .before .before .before .args in
     let e = c .before .before .locate .ensures in
-    let p = fetch-short (a .key .now) (a .file .now) (a .place) (a .out .now) (a .info .now) (located-found _ _ _ _ e (c .if2 .left)) (omega (arith, c .before .before .before .if1)) in
+    let p = fetch-short (a .key .now) (a .file .now) (a .place) (a .out .now) (a .info .now) (sym (located-number _ _ _ _ e) ∙ c .if2 .left) (omega (arith, c .before .before .before .if1)) in
     (p .0, located-mark _ _ _ _ e, p .1, p .2)
 
 returns-3 : tie.Need-returns-3
 returns-3 c =
     let a = c .before .before .before .before .before .before .before .before .before .before .before .args in
     let e = c .before .before .before .before .fetch .ensures .0 in
-    let p = fetch-refused (a .key .now) (a .file .now) (a .place) (a .out .now) (a .info .now) (omega (arith, c .before .before .before .before .before .before .if1)) _ (fetched-number _ _ _ _ _ e) (c .if3 .taken) _ (c .before .before .before .before .fetch .ensures .1) in
+    let p = fetch-refused (a .key .now) (a .file .now) (a .place) (a .out .now) (a .info .now) (omega (arith, c .before .before .before .before .before .before .if1)) _ e (c .if3 .taken) _ (c .before .before .before .before .fetch .ensures .1) in
     (p .0, fetched-mark _ _ _ _ _ e, p .1, p .2)
 
 returns-4 : tie.Need-returns-4
 returns-4 c =
     let a = c .before .before .before .before .before .before .before .before .before .before .before .before .before .before .before .args in
     let e = c .before .before .before .before .before .before .before .before .fetch .ensures .0 in
-    let z = c .before .before .before .before .if3 .left in
-    let p = fetch-done (a .key .now) (a .file .now) (a .place) (a .out .now) (a .info .now) (omega (arith, c .before .before .before .before .before .before .before .before .before .before .if1)) (sym (fetched-number _ _ _ _ _ e) ∙ z) _ _ _
-    (fetched-shot _ _ _ _ _ e z) (fetched-length _ _ _ _ _ e z) (fetched-stamp _ _ _ _ _ e z) _ _ (c .before .before .before .before .before .before .before .before .fetch .ensures .1) (c .before .before .put-fetched .ensures) in
+    let p = fetch-done (a .key .now) (a .file .now) (a .place) (a .out .now) (a .info .now) (omega (arith, c .before .before .before .before .before .before .before .before .before .before .if1)) _ e (c .before .before .before .before .if3 .left) _ _ (c .before .before .before .before .before .before .before .before .fetch .ensures .1) (c .before .before .put-fetched .ensures) in
     (p .0, fetched-mark _ _ _ _ _ e, p .1, p .2)
 
 pub burst-fetch-spec : {M : Type 1} → statement M
