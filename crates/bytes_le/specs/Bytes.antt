@@ -13,7 +13,7 @@ abbrev pub AllBytes : Bytes → Type 0
 AllBytes [] = Unit {0}
 AllBytes (b ∷ bs) = (b < 256) × AllBytes bs
 
--- b with vs in the place of what stood from index i on
+-- b with vs instead of what stood from index i on
 unfoldable pub putBytes : Bytes → ℕ → Bytes → Bytes
 putBytes b i vs = take i b ++ (vs ++ drop (i + length vs) b)
 
@@ -27,6 +27,6 @@ abbrev pub unle : Bytes → ℕ
 unle [] = 0
 unle (b ∷ bs) = b + 256 * unle bs
 
--- the number of n bytes that stands in b from index i on
+-- the number of n bytes that stands in b from index i on; where fewer are left, of those
 unfoldable pub leAt : ℕ → Bytes → ℕ → ℕ
 leAt n b i = unle (take n (drop i b))

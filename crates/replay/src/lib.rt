@@ -17,6 +17,7 @@ pub struct Step {
     pub recorder: Recorder,
 }
 
+// What is left where the script ends.
 fn stopped(r: Recorder, position: usize) -> Step
     ensures { λ s. ⌜ s ≡ record { more = false; next = position; refusal = 0; value = 0; recorder = r } ⌝ }
 {
@@ -29,7 +30,7 @@ fn stopped(r: Recorder, position: usize) -> Step
     }
 }
 
-// The same for a keep.
+// As `perform`, for a keep.
 fn keep_step(r: Recorder, script: &[u8], position: usize, buffer: &mut [u8]) -> Step
     requires { ⌜ (position < length (now script)) × (1 < leAt 1 (now script) position) ⌝ }
     ensures { λ s. ⌜
