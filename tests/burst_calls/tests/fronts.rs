@@ -5,6 +5,8 @@
 use burst_calls::list::{bytes, KEY, SITE_MARK};
 use burst_calls::reading::{check_check, check_fetch, check_record, check_refused, CHECK_INFO};
 use reference::burst::layout::seal_shot;
+use reference::burst::lister::list;
+use reference::burst::reader::{front, Front};
 use reference::burst::{Entry, Header};
 use reference::random::SplitMix64;
 
@@ -116,10 +118,14 @@ fn changed(change: impl Fn(&mut Draft)) -> Draft {
     draft
 }
 
-/// The calls and the reference refuse with 12.
+/// The calls and the reference refuse with 12, and its lister does.
 fn assert_12(file: &[u8], what: &str) {
     let refused = check_refused(&KEY, file, &|| what.into());
     assert_eq!(refused, (12, 0), "{what}");
+    assert_eq!(front(file), Err(12), "{what}");
+    if file.len() <= 65_536 {
+        assert_eq!(list(file), "front 12\n", "{what}");
+    }
 }
 
 #[test]
@@ -142,6 +148,8 @@ fn drafts_that_keep_the_rules_are_accepted() {
             let recorded = check_record(&KEY, &file, place, &what);
             assert_eq!([fetched, recorded], [(0, 0); 2]);
         }
+        let (header, entries) = (right.header, right.entries);
+        assert_eq!(front(&file), Ok(Front { header, entries }));
     }
 }
 
@@ -509,43 +517,23 @@ fn closing_does_not_wrap() {
 // The lengths are then out of range too.
 #[test]
 fn records_do_not_wrap() {
-    let put_entry = |draft: &Draft, place: usize, entry: Entry| {
-        let mut file = draft.file();
-        let at = draft.index_at + 12 * place;
-        file[at..at + 12].copy_from_slice(&entry.to_bytes());
-        file
-    };
-    let lone = draft(1, &[(1, 5)]);
-    for end in [32, 40, 63, lone.header.index_offset] {
-        let length = end.wrapping_sub(32 + 32);
-        let entry = Entry {
-            length,
-            ..lone.entries[0]
-        };
-        if length > 1_048_576 {
-            assert_12(&put_entry(&lone, 0, entry), "the end in 32 bits");
-        }
-    }
-    let two = draft(2, &[(1, 5), (2, 5)]);
-    let first = Entry {
-        length: 44u32.wrapping_sub(32 + 32),
-        ..two.entries[0]
-    };
-    let mut file = put_entry(&two, 0, first);
-    let second = Entry {
-        offset: 44,
-        ..two.entries[1]
-    };
-    let at = two.index_at + 12;
-    file[at..at + 12].copy_from_slice(&second.to_bytes());
-    assert_12(&file, "the end is the next offset");
+    // All else is as it would be if the sum were right.
+    let mut lone = draft(1, &[(1, 5)]);
+    lone.lay_out_index(40);
+    lone.entries[0].length = 40u32.wrapping_sub(32 + 32);
+    assert_12(&lone.file(), "the end is the index offset");
+
+    let mut two = draft(2, &[(1, 5), (2, 5)]);
+    two.lay_out_index(44 + 5 + 32);
+    two.entries[0].length = 44u32.wrapping_sub(32 + 32);
+    two.entries[1].offset = 44;
+    assert_12(&two.file(), "the end is the next offset");
+
     // An offset far away, from which length + 32 comes back.
-    let far = Entry {
-        offset: two.header.index_offset.wrapping_sub(1_048_576 + 32),
-        length: 1_048_576,
-        ..two.entries[1]
-    };
-    assert_12(&put_entry(&two, 1, far), "the offset in 32 bits");
+    let mut far = draft(2, &[(1, 5), (2, 5)]);
+    far.entries[1].offset = far.header.index_offset.wrapping_sub(1_048_576 + 32);
+    far.entries[1].length = 1_048_576;
+    assert_12(&far.file(), "the offset in 32 bits");
 }
 
 /// Headers and indexes with random changes, against the reference.

@@ -9,7 +9,10 @@ use reference::sealing::{seal, Variant};
 fn block(name: &str) -> Vec<u8> {
     let page = include_str!("../../../docs/FORMAT.md");
     let start = format!("```hex {name}\n");
-    let from = page.find(&start).unwrap_or_else(|| panic!("no block {name}")) + start.len();
+    let from = page
+        .find(&start)
+        .unwrap_or_else(|| panic!("no block {name}"))
+        + start.len();
     let text = &page[from..from + page[from..].find("```").unwrap()];
     let digits: Vec<char> = text
         .lines()
@@ -62,7 +65,11 @@ fn worked_file_is_read() {
 fn vectors_of_sealing() {
     let none: &[u8] = &[];
     let long = counting(0x00, 130);
-    for (name, message) in [("empty", none), ("three bytes", b"fox"), ("130 bytes", &long)] {
+    for (name, message) in [
+        ("empty", none),
+        ("three bytes", b"fox"),
+        ("130 bytes", &long),
+    ] {
         let sealed = seal(
             Variant::Icepole128,
             &counting(0x00, 16),

@@ -91,21 +91,20 @@ pub fn assert_gives_back(burst: &PlainBurst, file: &[u8]) {
         *shot = Some((fetched.stamp, fetched.picture));
     }
     assert_eq!(shots, burst.shots);
-    assert_refused_places(&burst.key, file, checked.kept, (13, 0));
+    assert_no_such_place(&burst.key, file, checked.kept);
 }
 
-/// Fetch and record refuse some places from `first` on with a number and mark.
-pub fn assert_refused_places(key: &[u8], file: &[u8], first: u64, expected: (u32, u32)) {
-    let (number, mark) = expected;
+/// Fetch and record refuse some places from `kept` on with 13.
+fn assert_no_such_place(key: &[u8], file: &[u8], kept: u64) {
     let refused = RecordPart {
-        number,
-        mark,
+        number: 13,
+        mark: 0,
         offset: 0,
         length: 0,
     };
-    for place in [first, first + 1, 60, 65_536, 1 << 32, u64::MAX] {
+    for place in [kept, kept + 1, 60, 65_536, 1 << 32, u64::MAX] {
         let fetched = fetch(key, file, place, ROOM);
-        assert_eq!(fetched, Err(Refusal { number, mark }), "place {place}");
+        assert_eq!(fetched, Err(Refusal::unmarked(13)), "place {place}");
         assert_eq!(record(key, file, place), refused, "place {place}");
     }
 }
