@@ -14,8 +14,8 @@ use Rattle.icepole.specs.Answers.{tagAgrees}
 use Rattle.icepole.specs.Bounds.{Bounded}
 use Rattle.icepole.specs.Sealing.{_⊕_, absorb, absorbAssociated, absorbMessage, decrypt, encrypt, expectedTag, keyed, messageOf, messagePart, ready, readyOf, same, sealed, secretOf, tag, tagPart}
 use Rattle.icepole.specs.declared.Sizes.{Sizes}
-use Rattle.icepole.proofs.Blocks.{length-associated, length-encrypt}
-use Rattle.icepole.proofs.Opening.{length-keyed}
+use Rattle.icepole.proofs.Blocks.{length-encrypt}
+use Rattle.icepole.proofs.Opening.{length-keyed, length-ready}
 use Rattle.icepole.proofs.Xor.{length-xor}
 
 -- a block, by its words
@@ -28,32 +28,39 @@ encrypt-by o o₂ u m i r r′ e h = h ∙ ap (λ (r : ℕ). putBytes o i (encry
 pub decrypt-by : (o o₂ u m : Bytes) (i r r′ : ℕ) → r ≡ r′ → o₂ ≡ putBytes o i (decrypt r u m) → o₂ ≡ putBytes o i (decrypt r′ u m)
 decrypt-by o o₂ u m i r r′ e h = h ∙ ap (λ (r : ℕ). putBytes o i (decrypt r u m)) e
 
+-- what stands before the message: the sealed secret number, and the state after the associated data
+pub sealed-ready : (q : Sizes) (k n s a o o₁ v x u : Bytes)
+    → v ≡ keyed k n → x ≡ absorb v (take (length s) s) 0 → o₁ ≡ putBytes o 0 (v ⊕ take (length s) s) → u ≡ absorbAssociated (q .block) x a
+    → (u ≡ ready (q .block) (keyed k n) s a) × (o₁ ≡ putBytes o 0 (keyed k n ⊕ s))
+unfolding ready
+sealed-ready q k n s a o o₁ v x u ev ex e₁ eu =
+    let ets : take (length s) s ≡ s = take-length s in (
+      eu ∙ ap (λ (x : Bytes). absorbAssociated (q .block) x a) (ex ∙ ap₂ (λ (v s : Bytes). absorb v s 0) ev ets),
+      e₁ ∙ ap₂ (λ (v s : Bytes). putBytes o 0 (v ⊕ s)) ev ets,
+    )
+
 -- the runs of bytes of a sealed message
-pub sealed-runs : (q : Sizes) (hq : Bounded q) (k n s a m o o₁ o₂ o₃ v x u w : Bytes) → length s ≡ q .secret
+pub sealed-runs : (q : Sizes) (hq : Bounded q) (k n s a m o o₁ o₂ o₃ u w : Bytes) → length s ≡ q .secret
     → q .secret + (length m + 16) ≤ length o
-    → v ≡ keyed k n → x ≡ absorb v (take (length s) s) 0 → o₁ ≡ putBytes o 0 (v ⊕ take (length s) s)
-    → u ≡ absorbAssociated (q .block) x a → w ≡ absorbMessage (q .block) u m → o₂ ≡ putBytes o₁ (length s) (encrypt (q .block) u m)
-    → length w ≡ 160 → o₃ ≡ putBytes o₂ (length s + length m) (take 16 w)
+    → u ≡ ready (q .block) (keyed k n) s a → o₁ ≡ putBytes o 0 (keyed k n ⊕ s)
+    → w ≡ absorbMessage (q .block) u m → o₂ ≡ putBytes o₁ (q .secret) (encrypt (q .block) u m)
+    → length w ≡ 160 → o₃ ≡ putBytes o₂ (q .secret + length m) (take 16 w)
     → o₃ ≡ putBytes o 0 (sealed q k n s a m)
-unfolding sealed ready
-sealed-runs q hq k n s a m o o₁ o₂ o₃ v x u w hs ho ev ex e₁ eu ew e₂ lw e₃ =
-    let u′ : Bytes = absorbAssociated (q .block) (absorb (keyed k n) s 0) a in
+unfolding sealed
+sealed-runs q hq k n s a m o o₁ o₂ o₃ u w hs ho eu e₁ ew e₂ lw e₃ =
+    let u′ : Bytes = ready (q .block) (keyed k n) s a in
     let c₀ : Bytes = keyed k n ⊕ s in
     let c₁ : Bytes = encrypt (q .block) u′ m in
-    let ets : take (length s) s ≡ s = take-length s in
-    let ex′ : x ≡ absorb (keyed k n) s 0 = ex ∙ ap₂ (λ (v s : Bytes). absorb v s 0) ev ets in
-    let eu′ : u ≡ u′ = eu ∙ ap (λ (x : Bytes). absorbAssociated (q .block) x a) ex′ in
     let l₀ : length c₀ ≡ length s = length-xor (keyed k n) s (let e : length (keyed k n) ≡ 160 = length-keyed k n in omega (arith, hq .secret)) in
-    let l₁ : length c₁ ≡ length m = length-encrypt (q .block) (hq .some) (hq .block) m u′ (length-associated (q .block) (hq .some) (absorb (keyed k n) s 0) a) in
+    let l₁ : length c₁ ≡ length m = length-encrypt (q .block) (hq .some) (hq .block) m u′ (length-ready q (hq .some) (hq .block) (omega (arith, hq .secret)) (keyed k n) s a) in
     let lt : length (take 16 w) ≡ 16 = lib.Seq.length-take-le 16 w (omega arith) in
-    let f₁ : o₁ ≡ putBytes o 0 c₀ = e₁ ∙ ap₂ (λ (v s : Bytes). putBytes o 0 (v ⊕ s)) ev ets in
     let f₂ : o₂ ≡ putBytes o 0 (c₀ ++ c₁) =
-    e₂ ∙ ap₂ (λ (o u : Bytes). putBytes o (length s) (encrypt (q .block) u m)) f₁ eu′
-    ∙ put-put o 0 c₀ c₁ (length s) (omega arith) (omega arith) in
+    e₂ ∙ ap₂ (λ (o u : Bytes). putBytes o (q .secret) (encrypt (q .block) u m)) e₁ eu
+    ∙ put-put o 0 c₀ c₁ (q .secret) (omega arith) (omega arith) in
     let l₂ : length (c₀ ++ c₁) ≡ length s + length m = length-append c₀ c₁ ∙ ap₂ (λ (i j : ℕ). i + j) l₀ l₁ in
-    let ew′ : take 16 w ≡ tag (absorbMessage (q .block) u′ m) = ap (take 16) (ew ∙ ap (λ (u : Bytes). absorbMessage (q .block) u m) eu′) in
-    e₃ ∙ ap (λ (o : Bytes). putBytes o (length s + length m) (take 16 w)) f₂
-    ∙ put-put o 0 (c₀ ++ c₁) (take 16 w) (length s + length m) (omega arith) (omega arith)
+    let ew′ : take 16 w ≡ tag (absorbMessage (q .block) u′ m) = ap (take 16) (ew ∙ ap (λ (u : Bytes). absorbMessage (q .block) u m) eu) in
+    e₃ ∙ ap (λ (o : Bytes). putBytes o (q .secret + length m) (take 16 w)) f₂
+    ∙ put-put o 0 (c₀ ++ c₁) (take 16 w) (q .secret + length m) (omega arith) (omega arith)
     ∙ ap (putBytes o 0) (append-assoc c₀ c₁ (take 16 w) ∙ ap (λ (t : Bytes). c₀ ++ (c₁ ++ t)) ew′)
 
 -- ---- opening: the secret number, the state after the associated data, the tag, the message

@@ -10,7 +10,7 @@ ghost use Rattle.permutation.specs.State.{setWord};
 ghost use Rattle.bytes_le.specs.Bytes.{putBytes};
 ghost use Rattle.state_bytes.specs.StateBytes.{wordOf, bytesOf, permuted};
 ghost use Rattle.icepole.specs.Variants.{sizes};
-ghost use Rattle.icepole.specs.Sealing.{_⊕_, xorWith, same, keyed, absorb, absorbAssociated, absorbMessage, encrypt, decrypt, sealed, secretOf, readyOf, tag, messagePart, tagPart};
+ghost use Rattle.icepole.specs.Sealing.{_⊕_, xorWith, same, keyed, absorb, absorbAssociated, absorbMessage, encrypt, decrypt, ready, sealed, secretOf, readyOf, tag, messagePart, tagPart};
 ghost use Rattle.icepole.specs.Answers.{maxLength, sealNumber, openNumber, sealAnswer, sealOutput, openedAnswer, openAnswer, openOutput, fitsOutput};
 ghost use Rattle.icepole.specs.Bounds.{Bounded};
 
@@ -44,7 +44,7 @@ pub const SEALED_TOO_SHORT: u32 = 6;
 pub const TAG_DIFFERS: u32 = 7;
 
 // Associated data and message are at most so many bytes each.
-const MAX_LENGTH: usize = 67108864;
+pub const MAX_LENGTH: usize = 67108864;
 
 // What sealing answers: a refusal number with its mark, or the count of bytes written.
 pub struct Sealed {
@@ -89,7 +89,7 @@ pub fn sizes_of(v: Variant) -> Sizes
 }
 
 // The state after a block of n bytes that is already xored into v: the frame bit and the 1 are added, then P6.
-fn finish_bytes(v: [u8; 160], n: usize, frame: u8) -> State
+pub fn finish_bytes(v: [u8; 160], n: usize, frame: u8) -> State
     requires { ⌜ (n < 160) × (frame < 2) ⌝ }
     ensures { λ r. ⌜ bytesOf r ≡ permuted 6 (set v n (bitXor (getD v n 0) (frame + 2))) ⌝ }
 {
@@ -186,7 +186,7 @@ fn decrypt_words(s: State, c: &[u8], at: usize, n: usize, out: &mut [u8], to: us
 }
 
 // ---- the same, with the count of words known to the compiler where it is that of a variant
-fn encrypt_full(s: State, m: &[u8], at: usize, n: usize, out: &mut [u8], to: usize) -> State
+pub fn encrypt_full(s: State, m: &[u8], at: usize, n: usize, out: &mut [u8], to: usize) -> State
     requires { ⌜ (n < 20) × (at + 8 * n ≤ length (now m)) × (to + 8 * n ≤ length (now out)) ⌝ }
     ensures { λ r. ⌜ (bytesOf r ≡ absorb (bytesOf s) (take (8 * n) (drop at (now (m .entry)))) 1)
         × (now (out .exit) ≡ putBytes (now (out .entry)) to (bytesOf s ⊕ take (8 * n) (drop at (now (m .entry))))) ⌝ }
@@ -442,6 +442,26 @@ fn decrypt_message(v: State, n: usize, c: &[u8], from: usize, l: usize, out: &mu
     decrypt_last(state_bytes::to_bytes(s), c, from + at, l - at, out, at);
 }
 
+// The state after the secret number, which is put into out at its front, sealed, and the associated data.
+pub fn seal_ready(
+    q: Sizes,
+    key: &[u8],
+    nonce: &[u8],
+    secret: &[u8],
+    first: &[u8],
+    second: &[u8],
+    out: &mut [u8],
+) -> State
+    requires { ⌜ Bounded q × (length (now key) ≡ q .key) × (length (now nonce) ≡ q .nonce) × (length (now secret) ≡ q .secret)
+        × (length (now first) + length (now second) ≤ maxLength) × (q .secret ≤ length (now out)) ⌝ }
+    ensures { λ r. ⌜ (bytesOf r ≡ ready (q .block) (keyed (now (key .entry)) (now (nonce .entry))) (now (secret .entry)) (now (first .entry) ++ now (second .entry)))
+        × (now (out .exit) ≡ putBytes (now (out .entry)) 0 (keyed (now (key .entry)) (now (nonce .entry)) ⊕ now (secret .entry))) ⌝ }
+{
+    let v = state_bytes::to_bytes(keyed_state(key, nonce));
+    let s = encrypt_bytes(v, secret, 0, secret.len(), 0, out, 0);
+    absorb_associated(s, q.block / 8, first, second)
+}
+
 // Writes the sealed message at the front of out. All sizes fit.
 fn seal_into(
     q: Sizes,
@@ -458,12 +478,9 @@ fn seal_into(
     ensures { λ _. ⌜ now (out .exit) ≡ putBytes (now (out .entry)) 0
         (sealed q (now (key .entry)) (now (nonce .entry)) (now (secret .entry)) (now (first .entry) ++ now (second .entry)) (now (message .entry))) ⌝ }
 {
-    let r = q.block / 8;
-    let n = secret.len();
-    let v = state_bytes::to_bytes(keyed_state(key, nonce));
-    let s = encrypt_bytes(v, secret, 0, n, 0, out, 0);
-    let u = absorb_associated(s, r, first, second);
-    let w = state_bytes::to_bytes(encrypt_message(u, r, message, out, n));
+    let n = q.secret;
+    let u = seal_ready(q, key, nonce, secret, first, second, out);
+    let w = state_bytes::to_bytes(encrypt_message(u, q.block / 8, message, out, n));
     bytes_le::put_bytes(out, n + message.len(), &w[0..16]);
 }
 
@@ -491,7 +508,7 @@ fn open_ready(
 
 // ---- the calls
 // The number of sealing, from the lengths of what is lent.
-fn seal_number(
+pub fn seal_number(
     q: Sizes,
     key: usize,
     nonce: usize,

@@ -1,0 +1,4 @@
+pub mod Machine
+pub mod Numbers
+pub mod Turns
+pub mod Answers

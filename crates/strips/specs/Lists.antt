@@ -1,0 +1,155 @@
+-- Lists of calls on one message (01, "Afterwards"): a start, then strips and ends in any order, refused ones among them. Each call is given the state that the call before returned.
+--   agrees    numbers and counts equal those of the plain message, which is worked out from the calls' arguments alone
+--   bytes     what was written, joined, is the sealed message up to here, and the whole of it after an accepted end
+--   nothing   after a start that was turned down nothing is written
+--   any-cut   for every list of strips whose joining is the message, each call is accepted and the bytes equal whole sealing
+-- Assumes nothing.
+use mathlib.Core.Bool.{Bool, true, false}
+use mathlib.Core.List.{List, [], _∷_, _++_}
+use mathlib.Core.Path.{_≡_}
+use Prim.Native.Nat.{ℕ, _+_, _≤_}
+use lib.Dec.{eqb}
+use lib.ListN.{length, take}
+use Rattle.bytes_le.specs.Bytes.{Bytes}
+use Rattle.icepole.specs.declared.Variant.the-variants.{Icepole128}
+use Rattle.icepole.specs.Variants.{sizes}
+use Rattle.icepole.specs.Sealing.{pick, sealed}
+use Rattle.icepole.specs.Answers.{maxLength}
+use Rattle.strips.specs.declared.StripState.{StripState}
+use Rattle.strips.specs.declared.StripAnswer.{StripAnswer}
+use Rattle.strips.specs.Answers.{startAnswer, startOutput, stripAnswer, stripOutput, endAnswer, endOutput, startRefusal, stripNumber, endNumber}
+
+-- ---- the calls
+-- each has the output that is lent to it
+pub data Call : Type 0 where
+  stripOf : (message out : Bytes) → Call
+  endOf : (out : Bytes) → Call
+
+-- the arguments of the start, and the calls after it
+pub record CallList : Type 0 where
+  pub key : Bytes
+  pub nonce : Bytes
+  pub secret : Bytes
+  pub associated : Bytes
+  pub out : Bytes
+  pub calls : List Call
+
+-- what a call tells: its refusal number, its mark, and the count of bytes written
+pub record Told : Type 0 where
+  pub number : ℕ
+  pub mark : ℕ
+  pub count : ℕ
+
+-- ---- the calls run: what a call answers and leaves is what its contract states
+abbrev pub toldBy : StripAnswer → Told
+toldBy a = record { number = a .refusal; mark = a .mark; count = a .count }
+
+unfoldable pub answerTo : StripState → Call → StripAnswer
+answerTo s (stripOf m o) = stripAnswer s m o
+answerTo s (endOf o) = endAnswer s o
+
+unfoldable pub outputOf : StripState → Call → Bytes
+outputOf s (stripOf m o) = stripOutput s m o
+outputOf s (endOf o) = endOutput s o
+
+abbrev pub toldFrom : StripState → List Call → List Told
+toldFrom s [] = []
+toldFrom s (c ∷ cs) = toldBy (answerTo s c) ∷ toldFrom (answerTo s c .state) cs
+
+-- the fronts of the outputs, joined: as many bytes of each as its call says it wrote
+abbrev pub writtenFrom : StripState → List Call → Bytes
+writtenFrom s [] = []
+writtenFrom s (c ∷ cs) = take (answerTo s c .count) (outputOf s c) ++ writtenFrom (answerTo s c .state) cs
+
+module _ (l : CallList) where
+  abbrev pub startTo : StripAnswer
+  startTo = startAnswer (l .key) (l .nonce) (l .secret) (l .associated) (l .out)
+
+  -- of the whole list, start's first
+  unfoldable pub runTold : List Told
+  runTold = toldBy startTo ∷ toldFrom (startTo .state) (l .calls)
+
+  unfoldable pub runWritten : Bytes
+  runWritten = take (startTo .count) (startOutput (l .key) (l .nonce) (l .secret) (l .associated) (l .out)) ++ writtenFrom (startTo .state) (l .calls)
+
+-- ---- the plain message: the strips accepted so far, joined, and whether it is finished
+pub record Plain : Type 0 where
+  pub message : Bytes
+  pub finished : Bool
+
+unfoldable pub numberOf : Plain → Call → ℕ
+numberOf p (stripOf m o) = stripNumber (p .finished) (length (p .message)) (length m) (length o)
+numberOf p (endOf o) = endNumber (p .finished) (length (p .message)) (length o)
+
+unfoldable pub accepted : Plain → Call → Plain
+accepted p (stripOf m o) = record { message = p .message ++ m; finished = false }
+accepted p (endOf o) = record { message = p .message; finished = true }
+
+-- how many bytes an accepted call writes
+unfoldable pub countOf : Call → ℕ
+countOf (stripOf m o) = length m
+countOf (endOf o) = 16
+
+-- a call turned down changes nothing
+unfoldable pub afterCall : Plain → Call → Plain
+afterCall p c = pick (eqb (numberOf p c) 0) (accepted p c) p
+
+-- the mark is 0: no call of these is refused with 7
+abbrev pub plainAnswer : ℕ → ℕ → Told
+plainAnswer num count = record { number = num; mark = 0; count = pick (eqb num 0) count 0 }
+
+abbrev pub plainFrom : Plain → List Call → List Told
+plainFrom p [] = []
+plainFrom p (c ∷ cs) = plainAnswer (numberOf p c) (countOf c) ∷ plainFrom (afterCall p c) cs
+
+abbrev pub afterCalls : Plain → List Call → Plain
+afterCalls p [] = p
+afterCalls p (c ∷ cs) = afterCalls (afterCall p c) cs
+
+module _ (l : CallList) where
+  abbrev pub startNumberOf : ℕ
+  startNumberOf = startRefusal (l .key) (l .nonce) (l .secret) (l .associated) (l .out)
+
+  -- a start turned down leaves it finished
+  abbrev pub plainStart : Plain
+  plainStart = record { message = []; finished = pick (eqb startNumberOf 0) false true }
+
+  unfoldable pub plainTold : List Told
+  plainTold = plainAnswer startNumberOf 16 ∷ plainFrom plainStart (l .calls)
+
+  unfoldable pub plainOf : Plain
+  plainOf = afterCalls plainStart (l .calls)
+
+  -- whole sealing of a message under the list's key, nonce, secret number and associated data
+  abbrev pub sealing : Bytes → Bytes
+  sealing m = sealed (sizes Icepole128) (l .key) (l .nonce) (l .secret) (l .associated) m
+
+-- ---- a message cut into strips, each with room in its output, and then the end
+pub record Piece : Type 0 where
+  pub message : Bytes
+  pub out : Bytes
+  pub room : length message ≤ length out
+
+abbrev pub joined : List Piece → Bytes
+joined [] = []
+joined (x ∷ xs) = x .message ++ joined xs
+
+abbrev pub cut : List Piece → Bytes → List Call
+cut [] out = endOf out ∷ []
+cut (x ∷ xs) out = stripOf (x .message) (x .out) ∷ cut xs out
+
+abbrev pub AllDone : List Told → Type 0
+AllDone [] = Unit {0}
+AllDone (t ∷ ts) = (t .number ≡ 0) × AllDone ts
+
+-- ---- the theorem
+pub record StripLists : Type 0 where
+  pub agrees : (l : CallList) → runTold l ≡ plainTold l
+  pub bytes : (l : CallList) → startNumberOf l ≡ 0
+      → runWritten l ≡ pick (plainOf l .finished) (sealing l (plainOf l .message)) (take (16 + length (plainOf l .message)) (sealing l (plainOf l .message)))
+  pub nothing : (l : CallList) → (startNumberOf l ≡ 0 → ⊥) → runWritten l ≡ []
+  pub any-cut : (key nonce secret associated out end : Bytes) (xs : List Piece)
+      → length key ≡ 16 → length nonce ≡ 16 → length secret ≡ 16 → length associated ≤ maxLength → 16 ≤ length out
+      → length (joined xs) ≤ maxLength → 16 ≤ length end
+      → let l : CallList = record { key = key; nonce = nonce; secret = secret; associated = associated; out = out; calls = cut xs end } in
+      AllDone (runTold l) × (runWritten l ≡ sealing l (joined xs))
