@@ -2,3 +2,4 @@ pub mod Machine
 pub mod Numbers
 pub mod Turns
 pub mod Answers
+pub mod Lists

@@ -11,7 +11,9 @@ use Rattle.bits.proofs.Cases.{le-or-lt}
 use Rattle.icepole.specs.Answers.{maxLength, sealNumber}
 use Rattle.icepole.specs.Sealing.{pick}
 use Rattle.icepole.specs.declared.Sizes.{Sizes}
-use Rattle.icepole.proofs.Numbers.{neither, passed}
+use Rattle.icepole.specs.Variants.{sizes}
+use Rattle.icepole.specs.declared.Variant.the-variants.{Icepole128}
+use Rattle.icepole.proofs.Numbers.{neither, passed, seal-0, seal-fits}
 use Rattle.strips.specs.Answers.{startNumber, stripNumber, endNumber}
 
 -- ---- start: as sealing no message, with room for the tag
@@ -92,3 +94,21 @@ strip-fits f c m o e =
 pub end-room : (f : Bool) (c o : ℕ) → endNumber f c o ≡ 0 → 16 ≤ o
 unfolding endNumber
 end-room f c o e = ltb-false _ _ (passed (ltb o 16) _ _ (passed (f || ltb maxLength c) _ _ e .1) .0)
+
+-- with the sizes of ICEPOLE-128
+pub record StartFits (k n s a o : ℕ) : Type 0 where
+  pub key : k ≡ 16
+  pub nonce : n ≡ 16
+  pub secret : s ≡ 16
+  pub associated : a ≤ maxLength
+  pub out : 16 ≤ o
+
+pub start-fits : (k n s a o : ℕ) → startNumber (sizes Icepole128) k n s a o ≡ 0 → StartFits k n s a o
+start-fits k n s a o e =
+    let w = seal-fits (sizes Icepole128) k n s a 0 (o + 16) (start-by-seal (sizes Icepole128) k n s a o ∙ e) in
+    record { key = w .key; nonce = w .nonce; secret = w .secret; associated = w .associated; out = omega (arith, w .out) }
+
+pub start-0 : (k n s a o : ℕ) → StartFits k n s a o → startNumber (sizes Icepole128) k n s a o ≡ 0
+start-0 k n s a o w =
+    sym (start-by-seal (sizes Icepole128) k n s a o)
+    ∙ sym (seal-0 (sizes Icepole128) k n s a 0 (o + 16) (w .key) (w .nonce) (w .secret) (w .associated) (omega arith) (omega (arith, w .out)))
