@@ -173,11 +173,11 @@ open-fits q k n a c fits agrees e =
     }
 
 -- ---- a number that is not 0 stands whatever the tag, and number 0 leaves the tag to decide
-stands : (b : Bool) (n x y num : ℕ) → (x ≡ suc num → y ≡ suc num) → pick b n x ≡ suc num → pick b n y ≡ suc num
+pub stands : (b : Bool) (n x y num : ℕ) → (x ≡ suc num → y ≡ suc num) → pick b n x ≡ suc num → pick b n y ≡ suc num
 stands true n x y num f e = e
 stands false n x y num f e = f e
 
-decides : (b : Bool) (n x y w : ℕ) → (x ≡ 0 → y ≡ w) → pick b (suc n) x ≡ 0 → pick b (suc n) y ≡ w
+pub decides : (b : Bool) (n x y w : ℕ) → (x ≡ 0 → y ≡ w) → pick b (suc n) x ≡ 0 → pick b (suc n) y ≡ w
 decides true n x y w f e = absurd (omega arith)
 decides false n x y w f e = f e
 

@@ -1,9 +1,16 @@
 // The calls of the camera's main firmware, which is in C: one pair for each variant. Each returns the refusal number, 0 when done. include/icepole.h declares them.
+use icepole::OUTPUT_TOO_SHORT;
 use icepole::Variant;
+use strips::STRIP_STATE;
+use strips::StripState;
 ghost use mathlib.Core.Path.{_≡_};
 ghost use mathlib.Core.List.{_++_};
+ghost use Prim.Native.Nat.{_≤_};
+ghost use lib.ListN.{length};
+ghost use Rattle.bytes_le.specs.Bytes.{putBytes};
 ghost use Rattle.icepole.specs.Answers.{sealRefusal, sealOutput};
 ghost use Rattle.icepole_c.specs.Calls.{callRefusal, callOutput, callInfo};
+ghost use Rattle.icepole_c.specs.Strips.{flag, stripStateBytes, stripStateIn, startCallNumber, startCallOutput, startCallState, stripCallNumber, stripCallOutput, stripCallState, endCallNumber, endCallOutput, endCallState};
 
 fn seal_call(
     v: Variant,
@@ -211,4 +218,112 @@ pub extern "C" fn icepole256a_open(
         out,
         info,
     )
+}
+
+// ---- strips of 128
+// Bytes of a strip state that is lent.
+const STRIP_STATE_LENGTH: usize = 169;
+
+// The strip state that stands at the front of b.
+fn strip_state_in(b: &[u8]) -> StripState
+    requires { ⌜ 169 ≤ length (now b) ⌝ }
+    ensures { λ r. ⌜ r ≡ stripStateIn (now (b .entry)) ⌝ }
+{
+    let mut bytes = [0u8; 160];
+    bytes_le::put_bytes(&mut bytes, 0, &b[0..160]);
+    let count = bytes_le::load_le(b, 160, 8);
+    StripState {
+        bytes,
+        count: count as usize,
+        finished: b[168] != 0,
+    }
+}
+
+fn flag_of(b: bool) -> u64
+    ensures { λ r. ⌜ r ≡ flag b ⌝ }
+{
+    if b {
+        return 1;
+    }
+    0
+}
+
+fn put_strip_state(s: StripState, b: &mut [u8])
+    requires { ⌜ 169 ≤ length (now b) ⌝ }
+    ensures { λ _. ⌜ now (b .exit) ≡ putBytes (now (b .entry)) 0 (stripStateBytes s) ⌝ }
+{
+    let bytes = s.bytes;
+    let i = bytes_le::put_bytes(b, 0, &bytes);
+    let j = bytes_le::store_le(b, i, 8, s.count as u64);
+    bytes_le::store_le(b, j, 1, flag_of(s.finished));
+}
+
+#[no_mangle]
+pub extern "C" fn icepole128_start(
+    key: &[u8],
+    nonce: &[u8],
+    secret: &[u8],
+    first: &[u8],
+    second: &[u8],
+    out: &mut [u8],
+    state: &mut [u8],
+) -> u32
+    ensures { λ r. ⌜ (r ≡ startCallNumber (now (key .entry)) (now (nonce .entry)) (now (secret .entry)) (now (first .entry) ++ now (second .entry)) (now (out .entry)) (now (state .entry)))
+        × (now (out .exit) ≡ startCallOutput (now (key .entry)) (now (nonce .entry)) (now (secret .entry)) (now (first .entry) ++ now (second .entry)) (now (out .entry)) (now (state .entry)))
+        × (now (state .exit) ≡ startCallState (now (key .entry)) (now (nonce .entry)) (now (secret .entry)) (now (first .entry) ++ now (second .entry)) (now (out .entry)) (now (state .entry))) ⌝ }
+{
+    if state.len() < STRIP_STATE_LENGTH {
+        let number = strips::start_number(
+            key.len(),
+            nonce.len(),
+            secret.len(),
+            first.len(),
+            second.len(),
+            out.len(),
+        );
+        if number != 0 {
+            return number;
+        }
+        return OUTPUT_TOO_SHORT;
+    }
+    let r = strips::start(key, nonce, secret, first, second, out);
+    let next = r.state;
+    put_strip_state(next, state);
+    r.refusal
+}
+
+#[no_mangle]
+pub extern "C" fn icepole128_strip(state: &mut [u8], message: &[u8], out: &mut [u8]) -> u32
+    ensures { λ r. ⌜ (r ≡ stripCallNumber (now (state .entry)) (now (message .entry)) (now (out .entry)))
+        × (now (state .exit) ≡ stripCallState (now (state .entry)) (now (message .entry)) (now (out .entry)))
+        × (now (out .exit) ≡ stripCallOutput (now (state .entry)) (now (message .entry)) (now (out .entry))) ⌝ }
+{
+    if state.len() < STRIP_STATE_LENGTH {
+        return STRIP_STATE;
+    }
+    let r = strips::strip(strip_state_in(state), message, out);
+    if r.refusal != 0 {
+        return r.refusal;
+    }
+    let next = r.state;
+    put_strip_state(next, state);
+    0
+}
+
+#[no_mangle]
+pub extern "C" fn icepole128_end(state: &mut [u8], out: &mut [u8]) -> u32
+    ensures { λ r. ⌜ (r ≡ endCallNumber (now (state .entry)) (now (out .entry)))
+        × (now (state .exit) ≡ endCallState (now (state .entry)) (now (out .entry)))
+        × (now (out .exit) ≡ endCallOutput (now (state .entry)) (now (out .entry))) ⌝ }
+{
+    if state.len() < STRIP_STATE_LENGTH {
+        return STRIP_STATE;
+    }
+    let r = strips::end(strip_state_in(state), out);
+    if r.refusal != 0 {
+        return r.refusal;
+    }
+    let next = r.state;
+    put_strip_state(next, state);
+    0
 }

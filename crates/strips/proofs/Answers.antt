@@ -11,12 +11,11 @@ use Rattle.icepole.specs.declared.Sizes.{Sizes}
 use Rattle.icepole.specs.declared.Variant.the-variants.{Icepole128}
 use Rattle.icepole.specs.Variants.{sizes}
 use Rattle.icepole.specs.Sealing.{_⊕_, keyed, ready}
-use Rattle.icepole.specs.Answers.{sealNumber, unless}
+use Rattle.icepole.specs.Answers.{unless}
 use Rattle.strips.specs.declared.StripState.{StripState}
 use Rattle.strips.specs.declared.StripAnswer.{StripAnswer}
 use Rattle.strips.specs.Machine.{ended, fed, fedBytes}
 use Rattle.strips.specs.Answers.{afterEnd, afterStrip, answered, block, endAnswer, endNumber, endOutput, endRefusal, heldIn, notStarted, startAnswer, startNumber, startOutput, startRefusal, started, stripAnswer, stripNumber, stripOutput, stripRefusal}
-use Rattle.strips.proofs.Numbers.{start-by-seal}
 
 abbrev told : ℕ → ℕ → StripState → StripAnswer
 told num count s = record { refusal = num; mark = 0; count = count; state = s }
@@ -30,12 +29,11 @@ module _ (num : ℕ) (was is : StripState) (count : ℕ) (o o′ : Bytes) where
 
 -- ---- start
 module _ (q : Sizes) (eq : q ≡ sizes Icepole128) (k n s f g o : Bytes) (num : ℕ)
-    (e : num ≡ sealNumber q (length k) (length n) (length s) (length f + length g) 0 (length o + 16)) where
+    (e : num ≡ startNumber (sizes Icepole128) (length k) (length n) (length s) (length f + length g) (length o)) where
   is-start : num ≡ startRefusal k n s (f ++ g) o
   unfolding startRefusal
   is-start =
-      e ∙ start-by-seal q (length k) (length n) (length s) (length f + length g) (length o)
-      ∙ ap₂ (λ (q : Sizes) (a : ℕ). startNumber q (length k) (length n) (length s) a (length o)) eq (sym (length-append f g))
+      e ∙ ap (λ (a : ℕ). startNumber (sizes Icepole128) (length k) (length n) (length s) a (length o)) (sym (length-append f g))
 
   pub start-refused : (num ≡ 0 → ⊥) → (told num 0 notStarted ≡ startAnswer k n s (f ++ g) o) × (o ≡ startOutput k n s (f ++ g) o)
   unfolding startAnswer startOutput

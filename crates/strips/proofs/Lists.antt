@@ -22,11 +22,11 @@ use Rattle.icepole.proofs.Opening.{length-keyed, length-ready}
 use Rattle.icepole.proofs.Xor.{length-xor}
 use Rattle.strips.specs.declared.StripState.{StripState}
 use Rattle.strips.specs.declared.StripAnswer.{StripAnswer}
-use Rattle.strips.specs.Machine.{Held, held, ended, fed, fedBytes, fillOf, finished}
+use Rattle.strips.specs.Machine.{Held, held, ended, fed, fedBytes, fillOf, finish}
 use Rattle.strips.specs.Answers.{afterEnd, afterStrip, answered, endAnswer, endNumber, endOutput, endRefusal, heldIn, notStarted, startAnswer, startNumber, startOutput, startRefusal, started, stripAnswer, stripNumber, stripOutput, stripRefusal}
-use Rattle.strips.specs.Lists.{AllDone, Call, CallList, Piece, Plain, StripLists, Told, accepted, afterCall, afterCalls, answerTo, countOf, cut, endOf, joined, numberOf, outputOf, plainAnswer, plainFrom, plainOf, plainStart, plainTold, runTold, runWritten, sealing, startNumberOf, startTo, stripOf, toldBy, toldFrom, writtenFrom}
+use Rattle.strips.specs.Lists.{AllDone, Call, StripList, Piece, PlainMessage, StripLists, Told, accepted, afterCall, afterCalls, answerTo, countOf, cut, endOf, joined, numberOf, outputOf, plainAnswer, plainFrom, plainOf, plainStart, plainTold, runTold, runWritten, sealing, startNumberOf, startTo, stripOf, toldBy, toldFrom, writtenFrom}
 use Rattle.strips.proofs.Machine.{bytes-join, fed-fill, fed-join, length-fed, whole-bytes, whole-tag}
-use Rattle.strips.proofs.Numbers.{StartFits, end-0, end-14, over, start-0, start-fits, strip-0, strip-14, strip-fits, takes}
+use Rattle.strips.proofs.Numbers.{StartFits, end-0, end-14, over, start-accepted, start-fits, strip-0, strip-14, strip-fits, takes}
 
 -- where the number is not 0
 turned : {A : Type 0} (n : ℕ) (a b : A) → pick (eqb (suc n) 0) a b ≡ b
@@ -60,12 +60,12 @@ output-is s (stripOf m o) = refl
 output-is s (endOf o) = refl
 
 -- ---- a state and the plain message that belongs to it; u is the state after the associated data
-record Rel (u : Bytes) (s : StripState) (p : Plain) : Type 0 where
+record Rel (u : Bytes) (s : StripState) (p : PlainMessage) : Type 0 where
   finished : s .finished ≡ p .finished
   count : s .count ≡ length (p .message)
   holds : p .finished ≡ false → heldIn s ≡ fed 128 (held u 0) (p .message)
 
-module _ (u : Bytes) (s : StripState) (p : Plain) (g : Rel u s p) where
+module _ (u : Bytes) (s : StripState) (p : PlainMessage) (g : Rel u s p) where
   same-number : (c : Call) → numberBy s c ≡ numberOf p c
   unfolding numberBy numberOf
   same-number (stripOf m o) = ap₂ (λ (f : Bool) (n : ℕ). stripNumber f n (length m) (length o)) (g .finished) (g .count)
@@ -133,10 +133,10 @@ module _ (u : Bytes) (s : StripState) (p : Plain) (g : Rel u s p) where
   rel-done (endOf o) e = rel-end o
 
 -- equals for equals
-along : (u : Bytes) (s s′ : StripState) (p p′ : Plain) → s′ ≡ s → p′ ≡ p → Rel u s p → Rel u s′ p′
+along : (u : Bytes) (s s′ : StripState) (p p′ : PlainMessage) → s′ ≡ s → p′ ≡ p → Rel u s p → Rel u s′ p′
 along u s s′ p p′ es ep g = rw (es, ep) g
 
-rel-next : (u : Bytes) (s : StripState) (p : Plain) → Rel u s p → (c : Call) → Rel u (answerTo s c .state) (afterCall p c)
+rel-next : (u : Bytes) (s : StripState) (p : PlainMessage) → Rel u s p → (c : Call) → Rel u (answerTo s c .state) (afterCall p c)
 rel-next u s p g c = by (numberOf p c) refl
   where
     by : (n : ℕ) → numberOf p c ≡ n → Rel u (answerTo s c .state) (afterCall p c)
@@ -144,29 +144,29 @@ rel-next u s p g c = by (numberOf p c) refl
     by (suc n) e = along u s _ p _ (refused-state u s p g c n e) (refused-plain u s p g c n e) g
 
 -- ---- numbers and counts
-told-from : (u : Bytes) (cs : List Call) (s : StripState) (p : Plain) → Rel u s p → toldFrom s cs ≡ plainFrom p cs
+told-from : (u : Bytes) (cs : List Call) (s : StripState) (p : PlainMessage) → Rel u s p → toldFrom s cs ≡ plainFrom p cs
 told-from u [] s p g = refl
 told-from u (c ∷ cs) s p g =
     ap₂ (λ (t : Told) (ts : List Told). t ∷ ts) (told-is u s p g c) (told-from u cs (answerTo s c .state) (afterCall p c) (rel-next u s p g c))
 
 -- ---- the bytes
 -- what is finished takes nothing more
-finished-number : (p : Plain) (c : Call) → p .finished ≡ true → numberOf p c ≡ 14
+finished-number : (p : PlainMessage) (c : Call) → p .finished ≡ true → numberOf p c ≡ 14
 unfolding numberOf
 finished-number p (stripOf m o) e = sym (strip-14 (p .finished) (length (p .message)) (length m) (length o) (over (p .finished) (length (p .message)) e))
 finished-number p (endOf o) e = sym (end-14 (p .finished) (length (p .message)) (length o) (over (p .finished) (length (p .message)) e))
 
 module _ (u : Bytes) where
-  abbrev Closed : List Call → StripState → Plain → Type 0
+  abbrev Closed : List Call → StripState → PlainMessage → Type 0
   Closed cs s p = (writtenFrom s cs ≡ []) × (afterCalls p cs ≡ p)
 
-  closed : (cs : List Call) (s : StripState) (p : Plain) → Rel u s p → p .finished ≡ true → Closed cs s p
+  closed : (cs : List Call) (s : StripState) (p : PlainMessage) → Rel u s p → p .finished ≡ true → Closed cs s p
   closed [] s p g h = (refl, refl)
   closed (c ∷ cs) s p g h =
       let e = finished-number p c h in
       let i = closed cs s p g h in (
         ap₂ (λ (n : ℕ) (t : StripState). take n (outputOf s c) ++ writtenFrom t cs) (refused-count u s p g c 13 e) (refused-state u s p g c 13 e) ∙ i .0,
-        ap (λ (p : Plain). afterCalls p cs) (refused-plain u s p g c 13 e) ∙ i .1,
+        ap (λ (p : PlainMessage). afterCalls p cs) (refused-plain u s p g c 13 e) ∙ i .1,
       )
 
   -- the ciphertext of a message, and its tag
@@ -177,11 +177,11 @@ module _ (u : Bytes) where
   T m = ended (fed 128 (held u 0) m)
 
   -- what is written up to p, of a message that ends at p or goes on
-  Upto : Plain → Bytes
+  Upto : PlainMessage → Bytes
   Upto p = pick (p .finished) (E (p .message) ++ T (p .message)) (E (p .message))
 
   -- what an accepted call puts stands at the front of its output
-  front : (s : StripState) (p : Plain) (g : Rel u s p) (c : Call) → numberOf p c ≡ 0 → length (bytesBy s c) ≡ countOf c
+  front : (s : StripState) (p : PlainMessage) (g : Rel u s p) (c : Call) → numberOf p c ≡ 0 → length (bytesBy s c) ≡ countOf c
       → take (answerTo s c .count) (outputOf s c) ≡ bytesBy s c
   front s p g c e l =
       ap₂ take (done-count u s p g c e ∙ sym l) (done-output u s p g c e)
@@ -189,20 +189,20 @@ module _ (u : Bytes) where
 
   ended-length : (s : StripState) → length (ended (heldIn s)) ≡ 16
   ended-length s =
-      let h : length (finished (s .bytes) (fillOf 128 (s .count)) 0) ≡ 160 = length-permuted 6 _ in
-      length-take-le 16 (finished (s .bytes) (fillOf 128 (s .count)) 0) (omega arith)
+      let h : length (finish (s .bytes) (fillOf 128 (s .count)) 0) ≡ 160 = length-permuted 6 _ in
+      length-take-le 16 (finish (s .bytes) (fillOf 128 (s .count)) 0) (omega arith)
 
-  Going : List Call → StripState → Plain → Type 0
+  Going : List Call → StripState → PlainMessage → Type 0
   Going cs s p = E (p .message) ++ writtenFrom s cs ≡ Upto (afterCalls p cs)
 
   -- the message is open here, and c comes
-  module _ (s : StripState) (p : Plain) (g : Rel u s p) (h : p .finished ≡ false) (cs : List Call) where
+  module _ (s : StripState) (p : PlainMessage) (g : Rel u s p) (h : p .finished ≡ false) (cs : List Call) where
     going-refused : (c : Call) (n : ℕ) → numberOf p c ≡ suc n → Going cs s p → Going (c ∷ cs) s p
     unfolding Going
     going-refused c n e i =
         ap₂ (λ (k : ℕ) (t : StripState). E (p .message) ++ (take k (outputOf s c) ++ writtenFrom t cs)) (refused-count u s p g c n e) (refused-state u s p g c n e)
         ∙ i
-        ∙ ap (λ (p : Plain). Upto (afterCalls p cs)) (sym (refused-plain u s p g c n e))
+        ∙ ap (λ (p : PlainMessage). Upto (afterCalls p cs)) (sym (refused-plain u s p g c n e))
 
     -- what c writes, then the rest
     next : (c : Call) → numberOf p c ≡ 0 → length (bytesBy s c) ≡ countOf c
@@ -218,7 +218,7 @@ module _ (u : Bytes) where
         ∙ ap (λ (b : Bytes). b ++ writtenFrom (afterStrip s m o) cs)
         (ap (λ (k : Held). fedBytes 128 (held u 0) (p .message) ++ fedBytes 128 k m) (g .holds h) ∙ sym (bytes-join 128 (held u 0) (p .message) m))
         ∙ i
-        ∙ ap (λ (p : Plain). Upto (afterCalls p cs)) (sym (done-plain u s p g (stripOf m o) e))
+        ∙ ap (λ (p : PlainMessage). Upto (afterCalls p cs)) (sym (done-plain u s p g (stripOf m o) e))
 
     going-end : (o : Bytes) → numberOf p (endOf o) ≡ 0 → Going (endOf o ∷ cs) s p
     unfolding Going T Upto accepted countOf
@@ -227,20 +227,20 @@ module _ (u : Bytes) where
         next (endOf o) e (ended-length s)
         ∙ ap₂ (λ (k : Held) (w : Bytes). (E (p .message) ++ ended k) ++ w) (g .holds h) (z .0)
         ∙ append-nil (E (p .message) ++ T (p .message))
-        ∙ ap Upto (sym (ap (λ (p : Plain). afterCalls p cs) (done-plain u s p g (endOf o) e) ∙ z .1))
+        ∙ ap Upto (sym (ap (λ (p : PlainMessage). afterCalls p cs) (done-plain u s p g (endOf o) e) ∙ z .1))
 
-  going : (cs : List Call) (s : StripState) (p : Plain) → Rel u s p → p .finished ≡ false → Going cs s p
+  going : (cs : List Call) (s : StripState) (p : PlainMessage) → Rel u s p → p .finished ≡ false → Going cs s p
   unfolding Going Upto
   going [] s p g h = append-nil (E (p .message)) ∙ ap (λ (f : Bool). pick f (E (p .message) ++ T (p .message)) (E (p .message))) (sym h)
   going (c ∷ cs) s p g h = by c (numberOf p c) refl (going cs)
     where
-      by : (c : Call) (n : ℕ) → numberOf p c ≡ n → ((s : StripState) (p : Plain) → Rel u s p → p .finished ≡ false → Going cs s p) → Going (c ∷ cs) s p
+      by : (c : Call) (n : ℕ) → numberOf p c ≡ n → ((s : StripState) (p : PlainMessage) → Rel u s p → p .finished ≡ false → Going cs s p) → Going (c ∷ cs) s p
       by c (suc n) e ih = going-refused s p g h cs c n e (ih s p g h)
       by (stripOf m o) zero e ih = going-strip s p g h cs m o e (ih (afterStrip s m o) (accepted p (stripOf m o)) (rel-strip u s p g m o e) (open-after u s p g m o))
       by (endOf o) zero e ih = going-end s p g h cs o e
 
 -- ---- the whole list
-module _ (l : CallList) where
+module _ (l : StripList) where
   abbrev u : Bytes
   u = ready 128 (keyed (l .key) (l .nonce)) (l .secret) (l .associated)
 
@@ -294,9 +294,9 @@ module _ (l : CallList) where
       ap₂ (λ (c t : Bytes). sealedSecret ++ (c ++ t)) (sym (whole-bytes 128 (omega arith) (omega arith) m u hu)) (sym (whole-tag 128 (omega arith) (omega arith) m u hu))
 
   module _ (e : startNumberOf l ≡ 0) where
-    fits : StartFits (length (l .key)) (length (l .nonce)) (length (l .secret)) (length (l .associated)) (length (l .out))
+    fits : StartFits (sizes Icepole128) (length (l .key)) (length (l .nonce)) (length (l .secret)) (length (l .associated)) (length (l .out))
     unfolding startRefusal
-    fits = start-fits (length (l .key)) (length (l .nonce)) (length (l .secret)) (length (l .associated)) (length (l .out)) e
+    fits = start-fits (sizes Icepole128) (length (l .key)) (length (l .nonce)) (length (l .secret)) (length (l .associated)) (length (l .out)) e
 
     length-secret : length sealedSecret ≡ 16
     length-secret =
@@ -311,7 +311,7 @@ module _ (l : CallList) where
         ∙ take-put (l .out) 0 sealedSecret 16 (let h : length sealedSecret ≡ 16 = length-secret in omega arith) (omega arith)
 
     -- the sealed message up to p
-    upto-is : (p : Plain) → sealedSecret ++ Upto u p ≡ pick (p .finished) (sealing l (p .message)) (take (16 + length (p .message)) (sealing l (p .message)))
+    upto-is : (p : PlainMessage) → sealedSecret ++ Upto u p ≡ pick (p .finished) (sealing l (p .message)) (take (16 + length (p .message)) (sealing l (p .message)))
     unfolding Upto E
     upto-is p = by (p .finished)
       where
@@ -363,36 +363,36 @@ module _ (end : Bytes) (he : 16 ≤ length end) where
       let hx : length p + length (x .message) ≤ maxLength = omega arith in
       let e = after-strip x p hx in
       let i = cut-from xs (p ++ x .message) (rw length-append (omega arith)) in (
-        (strip-number x p hx, subst (λ (q : Plain). AllDone (plainFrom q (cut xs end))) (sym e) (i .0)),
-        ap (λ (q : Plain). afterCalls q (cut xs end)) e ∙ i .1 ∙ ap (λ (m : Bytes). record { message = m; finished = true }) (append-assoc p (x .message) (joined xs)),
+        (strip-number x p hx, subst (λ (q : PlainMessage). AllDone (plainFrom q (cut xs end))) (sym e) (i .0)),
+        ap (λ (q : PlainMessage). afterCalls q (cut xs end)) e ∙ i .1 ∙ ap (λ (m : Bytes). record { message = m; finished = true }) (append-assoc p (x .message) (joined xs)),
       )
 
 list-cut : (key nonce secret associated out end : Bytes) (xs : List Piece)
     → length key ≡ 16 → length nonce ≡ 16 → length secret ≡ 16 → length associated ≤ maxLength → 16 ≤ length out
     → length (joined xs) ≤ maxLength → 16 ≤ length end
-    → let l : CallList = record { key = key; nonce = nonce; secret = secret; associated = associated; out = out; calls = cut xs end } in
+    → let l : StripList = record { key = key; nonce = nonce; secret = secret; associated = associated; out = out; calls = cut xs end } in
     AllDone (runTold l) × (runWritten l ≡ sealing l (joined xs))
 unfolding startRefusal plainTold plainOf
 list-cut key nonce secret associated out end xs hk hn hs ha ho hm he = (subst AllDone (sym (list-agrees l)) (told start-done), list-bytes l start-done ∙ whole start-done)
   where
-    l : CallList
+    l : StripList
     l = record { key = key; nonce = nonce; secret = secret; associated = associated; out = out; calls = cut xs end }
 
     start-done : startNumberOf l ≡ 0
-    start-done = start-0 (length key) (length nonce) (length secret) (length associated) (length out) (record { key = hk; nonce = hn; secret = hs; associated = ha; out = ho })
+    start-done = start-accepted (sizes Icepole128) (length key) (length nonce) (length secret) (length associated) (length out) (record { key = hk; nonce = hn; secret = hs; associated = ha; out = ho })
 
     begun : startNumberOf l ≡ 0 → plainStart l ≡ record { message = []; finished = false }
     begun e = ap (λ (n : ℕ). record { message = []; finished = pick (eqb n 0) false true }) e
 
     told : startNumberOf l ≡ 0 → AllDone (plainTold l)
-    told e = (e, subst (λ (p : Plain). AllDone (plainFrom p (cut xs end))) (sym (begun e)) (cut-from end he xs [] (omega arith) .0))
+    told e = (e, subst (λ (p : PlainMessage). AllDone (plainFrom p (cut xs end))) (sym (begun e)) (cut-from end he xs [] (omega arith) .0))
 
     after : startNumberOf l ≡ 0 → plainOf l ≡ record { message = joined xs; finished = true }
-    after e = ap (λ (p : Plain). afterCalls p (cut xs end)) (begun e) ∙ cut-from end he xs [] (omega arith) .1
+    after e = ap (λ (p : PlainMessage). afterCalls p (cut xs end)) (begun e) ∙ cut-from end he xs [] (omega arith) .1
 
     whole : startNumberOf l ≡ 0
         → pick (plainOf l .finished) (sealing l (plainOf l .message)) (take (16 + length (plainOf l .message)) (sealing l (plainOf l .message))) ≡ sealing l (joined xs)
-    whole e = ap (λ (p : Plain). pick (p .finished) (sealing l (p .message)) (take (16 + length (p .message)) (sealing l (p .message)))) (after e)
+    whole e = ap (λ (p : PlainMessage). pick (p .finished) (sealing l (p .message)) (take (16 + length (p .message)) (sealing l (p .message)))) (after e)
 
 pub strip-lists : StripLists
 strip-lists = record { agrees = list-agrees; bytes = list-bytes; nothing = list-nothing; any-cut = list-cut }

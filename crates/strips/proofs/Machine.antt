@@ -17,7 +17,7 @@ use Rattle.icepole.specs.Sealing.{_⊕_, xorWith, absorb, absorbMessage, encryp
 use Rattle.icepole.proofs.Xor.{getD-xor-with, length-xor, xor-none, xor-snoc, xor-with-snoc}
 use Rattle.icepole.proofs.Steps.{padded}
 use Rattle.icepole.proofs.Blocks.{by-blocks, encrypt-last, encrypt-more, length-absorb, message-last, message-more}
-use Rattle.strips.specs.Machine.{Held, held, xorAt, finished, opened, step, cipherByte, fed, fedBytes, fillOf, ended}
+use Rattle.strips.specs.Machine.{Held, held, xorAt, finish, makeRoom, step, cipherByte, fed, fedBytes, fillOf, ended}
 
 -- ---- a strip after a strip
 pub fed-join : (r : ℕ) (h : Held) (s t : Bytes) → fed r h (s ++ t) ≡ fed r (fed r h s) t
@@ -34,26 +34,26 @@ length-fed r h (x ∷ m) = ap suc (length-fed r (step r h x) m)
 
 module _ (r : ℕ) (hr : 0 < r) where
   -- ---- a block that is not full takes a byte as it is
-  pub opened-within : (v : Bytes) (n : ℕ) → n < r → opened r (held v n) ≡ held v n
-  unfolding opened
-  opened-within v n h = let e : eqb n r ≡ false = ne-eqb n r (λ z. omega arith) in rw e refl
+  pub room-within : (v : Bytes) (n : ℕ) → n < r → makeRoom r (held v n) ≡ held v n
+  unfolding makeRoom
+  room-within v n h = let e : eqb n r ≡ false = ne-eqb n r (λ z. omega arith) in rw e refl
 
   -- and a full one is finished first
-  pub opened-full : (v : Bytes) → opened r (held v r) ≡ held (finished v r 1) 0
-  unfolding opened
-  opened-full v = let e : eqb r r ≡ true = eq-eqb r r refl in rw e refl
+  pub room-full : (v : Bytes) → makeRoom r (held v r) ≡ held (finish v r 1) 0
+  unfolding makeRoom
+  room-full v = let e : eqb r r ≡ true = eq-eqb r r refl in rw e refl
 
-  same-opened : (g h : Held) (m : Bytes) → opened r g ≡ opened r h → 0 < length m → (fed r g m ≡ fed r h m) × (fedBytes r g m ≡ fedBytes r h m)
-  same-opened g h [] e l = absurd (omega arith)
-  same-opened g h (x ∷ m) e l =
+  same-room : (g h : Held) (m : Bytes) → makeRoom r g ≡ makeRoom r h → 0 < length m → (fed r g m ≡ fed r h m) × (fedBytes r g m ≡ fedBytes r h m)
+  same-room g h [] e l = absurd (omega arith)
+  same-room g h (x ∷ m) e l =
       let s : step r g x ≡ step r h x = ap (λ (k : Held). held (xorAt (k .state) (k .fill) x) (k .fill + 1)) e in (
         ap (λ (k : Held). fed r k m) s,
         ap₂ (λ (y : ℕ) (k : Held). y ∷ fedBytes r k m) (ap (λ (k : Held). bitXor (getD (k .state) (k .fill) 0) x) e) s,
       )
 
   pub across : (v m : Bytes) → 0 < length m
-      → (fed r (held v r) m ≡ fed r (held (finished v r 1) 0) m) × (fedBytes r (held v r) m ≡ fedBytes r (held (finished v r 1) 0) m)
-  across v m h = same-opened (held v r) (held (finished v r 1) 0) m (opened-full v ∙ sym (opened-within (finished v r 1) 0 hr)) h
+      → (fed r (held v r) m ≡ fed r (held (finish v r 1) 0) m) × (fedBytes r (held v r) m ≡ fedBytes r (held (finish v r 1) 0) m)
+  across v m h = same-room (held v r) (held (finish v r 1) 0) m (room-full v ∙ sym (room-within (finish v r 1) 0 hr)) h
 
   -- ---- within a block that began at u: p is in it, q comes
   module _ (hs : r < 160) (u : Bytes) (hu : length u ≡ 160) where
@@ -64,7 +64,7 @@ module _ (r : ℕ) (hr : 0 < r) where
         → (step r (begun p) x ≡ begun (p ++ (x ∷ []))) × (cipherByte r (begun p) x ≡ bitXor (getD u (length p) 0) x)
     unfolding begun
     turn p x h =
-        let e = opened-within (xorWith u p) (length p) h in
+        let e = room-within (xorWith u p) (length p) h in
         let l : length p + 1 ≡ length (p ++ (x ∷ [])) = sym (length-append p (x ∷ [])) in (
           ap (λ (k : Held). held (xorAt (k .state) (k .fill) x) (k .fill + 1)) e ∙ ap₂ held (xor-with-snoc u p x (omega arith)) l,
           ap (λ (k : Held). bitXor (getD (k .state) (k .fill) 0) x) e ∙ ap (λ (y : ℕ). bitXor y x) (getD-xor-with u p),
@@ -93,9 +93,9 @@ module _ (r : ℕ) (hr : 0 < r) where
     bytes-last m h = ap (λ (l : Bytes). l ++ fedBytes r (held u 0) m) (sym (xor-none u)) ∙ within m [] (omega arith) .1
 
     -- a full block, and more
-    full-block : (m : Bytes) → r < length m → finished (xorWith u (take r m)) r 1 ≡ absorb u (take r m) 1
+    full-block : (m : Bytes) → r < length m → finish (xorWith u (take r m)) r 1 ≡ absorb u (take r m) 1
     full-block m h =
-        padded u (take r m) (xorWith u (take r m)) r 1 (finished (xorWith u (take r m)) r 1) (length-take-le r m (omega arith)) (omega arith) refl refl
+        padded u (take r m) (xorWith u (take r m)) r 1 (finish (xorWith u (take r m)) r 1) (length-take-le r m (omega arith)) (omega arith) refl refl
 
     more : (m : Bytes) → r < length m
         → (fed r (held u 0) m ≡ fed r (held (absorb u (take r m) 1) 0) (drop r m))
@@ -135,7 +135,7 @@ module _ (r : ℕ) (hr : 0 < r) where
       by-blocks r hr (λ (m : Bytes). (u : Bytes) → length u ≡ 160 → ended (fed r (held u 0) m) ≡ tag (absorbMessage r u m))
       (λ m h u hu.
       ap ended (fed-last hs u hu m h)
-      ∙ ap tag (padded u m (xorWith u m) (length m) 0 (finished (xorWith u m) (length m) 0) refl (omega arith) refl refl ∙ sym (message-last r hr u m h)))
+      ∙ ap tag (padded u m (xorWith u m) (length m) 0 (finish (xorWith u m) (length m) 0) refl (omega arith) refl refl ∙ sym (message-last r hr u m h)))
       (λ m h ih u hu.
       ap ended (fed-more hs u hu m h)
       ∙ ih (absorb u (take r m) 1) (length-absorb u (take r m) 1)
@@ -155,11 +155,11 @@ fill-step (suc n) =
     (λ (h : n % 128 + 1 < 128). rw (ne-eqb (n % 128 + 1) 128 (λ z. omega arith)) (omega arith))
     (eq-or-lt-of-le (fill-bound 128 (omega arith) (suc n)))
 
-opened-fill : (h : Held) → opened 128 h .fill ≡ pick (eqb (h .fill) 128) 0 (h .fill)
-unfolding opened
-opened-fill h = by (eqb (h .fill) 128)
+room-fill : (h : Held) → makeRoom 128 h .fill ≡ pick (eqb (h .fill) 128) 0 (h .fill)
+unfolding makeRoom
+room-fill h = by (eqb (h .fill) 128)
   where
-    by : (b : Bool) → pick b (held (finished (h .state) 128 1) 0) h .fill ≡ pick b 0 (h .fill)
+    by : (b : Bool) → pick b (held (finish (h .state) 128 1) 0) h .fill ≡ pick b 0 (h .fill)
     by true = refl
     by false = refl
 
@@ -168,6 +168,6 @@ fed-fill [] v n = ap (fillOf 128) (sym (add-zero n))
 fed-fill (x ∷ m) v n =
     let h : Held = held v (fillOf 128 n) in
     let e : suc n + length m ≡ n + length (x ∷ m) = omega arith in
-    ap (λ (k : ℕ). fed 128 (held (xorAt (opened 128 h .state) (opened 128 h .fill) x) k) m .fill) (ap (λ (k : ℕ). k + 1) (opened-fill h) ∙ sym (fill-step n))
-    ∙ fed-fill m (xorAt (opened 128 h .state) (opened 128 h .fill) x) (suc n)
+    ap (λ (k : ℕ). fed 128 (held (xorAt (makeRoom 128 h .state) (makeRoom 128 h .fill) x) k) m .fill) (ap (λ (k : ℕ). k + 1) (room-fill h) ∙ sym (fill-step n))
+    ∙ fed-fill m (xorAt (makeRoom 128 h .state) (makeRoom 128 h .fill) x) (suc n)
     ∙ ap (fillOf 128) e

@@ -2,35 +2,66 @@
 -- Assumes nothing.
 use mathlib.Core.Path.{_≡_, refl, sym, ap, ap₂, _∙_}
 use mathlib.Core.Bool.{Bool, true, false, not, _||_}
-use mathlib.Core.Logic.{⊎-elim}
-use Prim.Native.Nat.{ℕ, _+_, _≤_, _<_}
+use Prim.Native.Nat.{ℕ, zero, suc, _+_, _≤_, _<_}
 use native.Mathlib.Omega.{arith}
-use borrow.Author.Tests.{lt-ltb, le-ltb, ltb-false}
+use borrow.Author.Tests.{eq-eqb, eqb-true, le-ltb, lt-ltb, ltb-false, not-false}
 use lib.Dec.{eqb, ltb}
-use Rattle.bits.proofs.Cases.{le-or-lt}
 use Rattle.icepole.specs.Answers.{maxLength, sealNumber}
 use Rattle.icepole.specs.Sealing.{pick}
 use Rattle.icepole.specs.declared.Sizes.{Sizes}
-use Rattle.icepole.specs.Variants.{sizes}
-use Rattle.icepole.specs.declared.Variant.the-variants.{Icepole128}
-use Rattle.icepole.proofs.Numbers.{neither, passed, seal-0, seal-fits}
+use Rattle.icepole.proofs.Numbers.{neither, passed, seal-0, seal-fits, stands}
 use Rattle.strips.specs.Answers.{startNumber, stripNumber, endNumber}
 
--- ---- start: as sealing no message, with room for the tag
-or-false : (b : Bool) → (b || false) ≡ b
-or-false true = refl
-or-false false = refl
+-- ---- start, by the number of sealing no message into an output that is long enough
+module _ (q : Sizes) (k n s a o : ℕ) where
+  abbrev bySeal : ℕ
+  bySeal = sealNumber q k n s a 0 (q .secret + 16)
 
-shifted : (o s : ℕ) → ltb (o + 16) (s + (0 + 16)) ≡ ltb o s
-shifted o s =
-    ⊎-elim (λ (h : s ≤ o). le-ltb (o + 16) (s + (0 + 16)) (omega arith) ∙ sym (le-ltb o s h))
-    (λ (h : o < s). lt-ltb (o + 16) (s + (0 + 16)) (omega arith) ∙ sym (lt-ltb o s h)) (le-or-lt s o)
+  pub start-stands : (num : ℕ) → bySeal ≡ suc num → startNumber q k n s a o ≡ suc num
+  unfolding sealNumber startNumber
+  start-stands num e =
+      stands (not (eqb k (q .key))) 1 _ _ num
+      (stands (not (eqb n (q .nonce))) 2 _ _ num
+      (stands (not (eqb s (q .secret))) 3 _ _ num
+      (λ (e : pick (ltb maxLength a || false) 4 (pick (ltb (q .secret + 16) (q .secret + (0 + 16))) 5 0) ≡ suc num).
+      stands (ltb maxLength a) 4 0 _ num (λ (e : 0 ≡ suc num). absurd (omega arith)) (sym (ap₂ (λ (x y : Bool). pick x 4 (pick y 5 0)) (or-false (ltb maxLength a)) enough) ∙ e)))) e
+    where
+      or-false : (b : Bool) → (b || false) ≡ b
+      or-false true = refl
+      or-false false = refl
 
-pub start-by-seal : (q : Sizes) (k n s a o : ℕ) → sealNumber q k n s a 0 (o + 16) ≡ startNumber q k n s a o
-unfolding sealNumber startNumber
-start-by-seal q k n s a o =
-    ap₂ (λ (x y : Bool). pick (not (eqb k (q .key))) 1 (pick (not (eqb n (q .nonce))) 2 (pick (not (eqb s (q .secret))) 3 (pick x 4 (pick y 5 0)))))
-    (or-false (ltb maxLength a)) (shifted o (q .secret))
+      enough : ltb (q .secret + 16) (q .secret + (0 + 16)) ≡ false
+      enough = le-ltb (q .secret + 16) (q .secret + (0 + 16)) (omega arith)
+
+  pub start-5 : bySeal ≡ 0 → o < q .secret → startNumber q k n s a o ≡ 5
+  unfolding startNumber
+  start-5 e h =
+      let w = seal-fits q k n s a 0 (q .secret + 16) e in
+      simp (eq-eqb k (q .key) (w .key), eq-eqb n (q .nonce) (w .nonce), eq-eqb s (q .secret) (w .secret), le-ltb maxLength a (w .associated), lt-ltb o (q .secret) h)
+
+  pub start-0 : bySeal ≡ 0 → q .secret ≤ o → startNumber q k n s a o ≡ 0
+  unfolding startNumber
+  start-0 e h =
+      let w = seal-fits q k n s a 0 (q .secret + 16) e in
+      simp (eq-eqb k (q .key) (w .key), eq-eqb n (q .nonce) (w .nonce), eq-eqb s (q .secret) (w .secret), le-ltb maxLength a (w .associated), le-ltb o (q .secret) h)
+
+-- the same in the terms of the code: num is the number that sealing gave, under sizes q
+module _ (q q′ : Sizes) (eq : q ≡ q′) (k n s a o num : ℕ) (e : num ≡ sealNumber q k n s a 0 (q .secret + 16)) where
+  sized : startNumber q k n s a o ≡ startNumber q′ k n s a o
+  sized = ap (λ (q : Sizes). startNumber q k n s a o) eq
+
+  pub start-refused-by : (num ≡ 0 → ⊥) → num ≡ startNumber q′ k n s a o
+  start-refused-by h = by num refl
+    where
+      by : (i : ℕ) → num ≡ i → num ≡ startNumber q′ k n s a o
+      by zero z = absurd (h z)
+      by (suc i) z = z ∙ sym (start-stands q k n s a o i (sym e ∙ z)) ∙ sized
+
+  pub start-refused-5 : num ≡ 0 → o < q .secret → 5 ≡ startNumber q′ k n s a o
+  start-refused-5 z h = sym (start-5 q k n s a o (sym e ∙ z) h) ∙ sized
+
+  pub start-accepted-by : num ≡ 0 → q .secret ≤ o → 0 ≡ startNumber q′ k n s a o
+  start-accepted-by z h = sym (start-0 q k n s a o (sym e ∙ z) h) ∙ sized
 
 -- ---- strip and end
 -- whether a state takes no more
@@ -95,20 +126,33 @@ pub end-room : (f : Bool) (c o : ℕ) → endNumber f c o ≡ 0 → 16 ≤ o
 unfolding endNumber
 end-room f c o e = ltb-false _ _ (passed (ltb o 16) _ _ (passed (f || ltb maxLength c) _ _ e .1) .0)
 
--- with the sizes of ICEPOLE-128
-pub record StartFits (k n s a o : ℕ) : Type 0 where
-  pub key : k ≡ 16
-  pub nonce : n ≡ 16
-  pub secret : s ≡ 16
+pub record StartFits (q : Sizes) (k n s a o : ℕ) : Type 0 where
+  pub key : k ≡ q .key
+  pub nonce : n ≡ q .nonce
+  pub secret : s ≡ q .secret
   pub associated : a ≤ maxLength
-  pub out : 16 ≤ o
+  pub out : q .secret ≤ o
 
-pub start-fits : (k n s a o : ℕ) → startNumber (sizes Icepole128) k n s a o ≡ 0 → StartFits k n s a o
-start-fits k n s a o e =
-    let w = seal-fits (sizes Icepole128) k n s a 0 (o + 16) (start-by-seal (sizes Icepole128) k n s a o ∙ e) in
-    record { key = w .key; nonce = w .nonce; secret = w .secret; associated = w .associated; out = omega (arith, w .out) }
+pub start-fits : (q : Sizes) (k n s a o : ℕ) → startNumber q k n s a o ≡ 0 → StartFits q k n s a o
+unfolding startNumber
+start-fits q k n s a o e =
+    let p₁ = passed (not (eqb k (q .key))) _ _ e in
+    let p₂ = passed (not (eqb n (q .nonce))) _ _ (p₁ .1) in
+    let p₃ = passed (not (eqb s (q .secret))) _ _ (p₂ .1) in
+    let p₄ = passed (ltb maxLength a) _ _ (p₃ .1) in
+    let p₅ = passed (ltb o (q .secret)) _ _ (p₄ .1) in
+    record {
+      key = eqb-true _ _ (not-false _ (p₁ .0));
+      nonce = eqb-true _ _ (not-false _ (p₂ .0));
+      secret = eqb-true _ _ (not-false _ (p₃ .0));
+      associated = ltb-false _ _ (p₄ .0);
+      out = ltb-false _ _ (p₅ .0);
+    }
 
-pub start-0 : (k n s a o : ℕ) → StartFits k n s a o → startNumber (sizes Icepole128) k n s a o ≡ 0
-start-0 k n s a o w =
-    sym (start-by-seal (sizes Icepole128) k n s a o)
-    ∙ sym (seal-0 (sizes Icepole128) k n s a 0 (o + 16) (w .key) (w .nonce) (w .secret) (w .associated) (omega arith) (omega (arith, w .out)))
+-- and what gives it
+pub start-accepted : (q : Sizes) (k n s a o : ℕ) → StartFits q k n s a o → startNumber q k n s a o ≡ 0
+start-accepted q k n s a o w =
+    start-0 q k n s a o (sym (seal-0 q k n s a 0 (q .secret + 16) (w .key) (w .nonce) (w .secret) (w .associated) (omega arith) (omega arith))) (w .out)
+
+pub start-fits-by : (q q′ : Sizes) → q ≡ q′ → (k n s a o : ℕ) → startNumber q′ k n s a o ≡ 0 → StartFits q k n s a o
+start-fits-by q q′ eq k n s a o e = start-fits q k n s a o (ap (λ (q : Sizes). startNumber q k n s a o) eq ∙ e)

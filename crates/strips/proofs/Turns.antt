@@ -12,8 +12,8 @@ use Rattle.bytes_le.proofs.Laws.{put-put}
 use Rattle.icepole.specs.Sealing.{_⊕_, absorb}
 use Rattle.icepole.proofs.Steps.{length-part, part-snoc}
 use Rattle.icepole.proofs.Xor.{length-xor}
-use Rattle.strips.specs.Machine.{Held, held, xorAt, finished, opened, step, cipherByte, fed, fedBytes, fillOf}
-use Rattle.strips.proofs.Machine.{across, bytes-join, bytes-more, fed-join, fed-more, length-fed, opened-within}
+use Rattle.strips.specs.Machine.{Held, held, xorAt, finish, makeRoom, step, cipherByte, fed, fedBytes, fillOf}
+use Rattle.strips.proofs.Machine.{across, bytes-join, bytes-more, fed-join, fed-more, length-fed, room-within}
 
 -- ---- one byte more within a block: j bytes of m from at on are done, and b holds them
 module _ (m : Bytes) (at j : ℕ) (h : at + j < length m) (v : Bytes) (fill : ℕ) (hf : fill + j < 128) (b : Bytes)
@@ -24,8 +24,8 @@ module _ (m : Bytes) (at j : ℕ) (h : at + j < length m) (v : Bytes) (fill : �
   abbrev p : Bytes
   p = take j (drop at m)
 
-  at-b : opened 128 (fed 128 (held v fill) p) ≡ held b (fill + j)
-  at-b = ap (opened 128) (sym e) ∙ opened-within 128 (omega arith) b (fill + j) hf
+  at-b : makeRoom 128 (fed 128 (held v fill) p) ≡ held b (fill + j)
+  at-b = ap (makeRoom 128) (sym e) ∙ room-within 128 (omega arith) b (fill + j) hf
 
   pub byte-fed : held (set b (fill + j) (bitXor (getD b (fill + j) 0) x)) (fill + (j + 1)) ≡ fed 128 (held v fill) (take (j + 1) (drop at m))
   byte-fed =
@@ -68,14 +68,14 @@ module _ (m : Bytes) (at : ℕ) (h : 128 < length m - at) (s t : Bytes) (hs : le
 
 -- ---- a strip that fills the block that waits, and goes on: b holds the full block
 module _ (v : Bytes) (fill : ℕ) (m : Bytes) (room : ℕ) (er : fill + room ≡ 128) (h : room < length m) (b w : Bytes)
-    (eb : held b (fill + room) ≡ fed 128 (held v fill) (take room m)) (ew : w ≡ finished b 128 1) where
+    (eb : held b (fill + room) ≡ fed 128 (held v fill) (take room m)) (ew : w ≡ finish b 128 1) where
   full : fed 128 (held v fill) (take room m) ≡ held b 128
   full = sym eb ∙ ap (held b) er
 
   some : 0 < length (drop room m)
   some = rw length-drop (omega arith)
 
-  fresh : held (finished b 128 1) 0 ≡ held w 0
+  fresh : held (finish b 128 1) 0 ≡ held w 0
   fresh = ap (λ (w : Bytes). held w 0) (sym ew)
 
   pub strip-fed : fed 128 (held w 0) (drop room m) ≡ fed 128 (held v fill) m

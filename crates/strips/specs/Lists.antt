@@ -26,7 +26,7 @@ pub data Call : Type 0 where
   endOf : (out : Bytes) → Call
 
 -- the arguments of the start, and the calls after it
-pub record CallList : Type 0 where
+pub record StripList : Type 0 where
   pub key : Bytes
   pub nonce : Bytes
   pub secret : Bytes
@@ -61,7 +61,7 @@ abbrev pub writtenFrom : StripState → List Call → Bytes
 writtenFrom s [] = []
 writtenFrom s (c ∷ cs) = take (answerTo s c .count) (outputOf s c) ++ writtenFrom (answerTo s c .state) cs
 
-module _ (l : CallList) where
+module _ (l : StripList) where
   abbrev pub startTo : StripAnswer
   startTo = startAnswer (l .key) (l .nonce) (l .secret) (l .associated) (l .out)
 
@@ -73,15 +73,15 @@ module _ (l : CallList) where
   runWritten = take (startTo .count) (startOutput (l .key) (l .nonce) (l .secret) (l .associated) (l .out)) ++ writtenFrom (startTo .state) (l .calls)
 
 -- ---- the plain message: the strips accepted so far, joined, and whether it is finished
-pub record Plain : Type 0 where
+pub record PlainMessage : Type 0 where
   pub message : Bytes
   pub finished : Bool
 
-unfoldable pub numberOf : Plain → Call → ℕ
+unfoldable pub numberOf : PlainMessage → Call → ℕ
 numberOf p (stripOf m o) = stripNumber (p .finished) (length (p .message)) (length m) (length o)
 numberOf p (endOf o) = endNumber (p .finished) (length (p .message)) (length o)
 
-unfoldable pub accepted : Plain → Call → Plain
+unfoldable pub accepted : PlainMessage → Call → PlainMessage
 accepted p (stripOf m o) = record { message = p .message ++ m; finished = false }
 accepted p (endOf o) = record { message = p .message; finished = true }
 
@@ -91,33 +91,33 @@ countOf (stripOf m o) = length m
 countOf (endOf o) = 16
 
 -- a call turned down changes nothing
-unfoldable pub afterCall : Plain → Call → Plain
+unfoldable pub afterCall : PlainMessage → Call → PlainMessage
 afterCall p c = pick (eqb (numberOf p c) 0) (accepted p c) p
 
 -- the mark is 0: no call of these is refused with 7
 abbrev pub plainAnswer : ℕ → ℕ → Told
 plainAnswer num count = record { number = num; mark = 0; count = pick (eqb num 0) count 0 }
 
-abbrev pub plainFrom : Plain → List Call → List Told
+abbrev pub plainFrom : PlainMessage → List Call → List Told
 plainFrom p [] = []
 plainFrom p (c ∷ cs) = plainAnswer (numberOf p c) (countOf c) ∷ plainFrom (afterCall p c) cs
 
-abbrev pub afterCalls : Plain → List Call → Plain
+abbrev pub afterCalls : PlainMessage → List Call → PlainMessage
 afterCalls p [] = p
 afterCalls p (c ∷ cs) = afterCalls (afterCall p c) cs
 
-module _ (l : CallList) where
+module _ (l : StripList) where
   abbrev pub startNumberOf : ℕ
   startNumberOf = startRefusal (l .key) (l .nonce) (l .secret) (l .associated) (l .out)
 
   -- a start turned down leaves it finished
-  abbrev pub plainStart : Plain
+  abbrev pub plainStart : PlainMessage
   plainStart = record { message = []; finished = pick (eqb startNumberOf 0) false true }
 
   unfoldable pub plainTold : List Told
   plainTold = plainAnswer startNumberOf 16 ∷ plainFrom plainStart (l .calls)
 
-  unfoldable pub plainOf : Plain
+  unfoldable pub plainOf : PlainMessage
   plainOf = afterCalls plainStart (l .calls)
 
   -- whole sealing of a message under the list's key, nonce, secret number and associated data
@@ -144,12 +144,12 @@ AllDone (t ∷ ts) = (t .number ≡ 0) × AllDone ts
 
 -- ---- the theorem
 pub record StripLists : Type 0 where
-  pub agrees : (l : CallList) → runTold l ≡ plainTold l
-  pub bytes : (l : CallList) → startNumberOf l ≡ 0
+  pub agrees : (l : StripList) → runTold l ≡ plainTold l
+  pub bytes : (l : StripList) → startNumberOf l ≡ 0
       → runWritten l ≡ pick (plainOf l .finished) (sealing l (plainOf l .message)) (take (16 + length (plainOf l .message)) (sealing l (plainOf l .message)))
-  pub nothing : (l : CallList) → (startNumberOf l ≡ 0 → ⊥) → runWritten l ≡ []
+  pub nothing : (l : StripList) → (startNumberOf l ≡ 0 → ⊥) → runWritten l ≡ []
   pub any-cut : (key nonce secret associated out end : Bytes) (xs : List Piece)
       → length key ≡ 16 → length nonce ≡ 16 → length secret ≡ 16 → length associated ≤ maxLength → 16 ≤ length out
       → length (joined xs) ≤ maxLength → 16 ≤ length end
-      → let l : CallList = record { key = key; nonce = nonce; secret = secret; associated = associated; out = out; calls = cut xs end } in
+      → let l : StripList = record { key = key; nonce = nonce; secret = secret; associated = associated; out = out; calls = cut xs end } in
       AllDone (runTold l) × (runWritten l ≡ sealing l (joined xs))

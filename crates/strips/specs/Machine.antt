@@ -22,19 +22,19 @@ abbrev pub xorAt : Bytes → ℕ → ℕ → Bytes
 xorAt v i x = set v i (bitXor (getD v i 0) x)
 
 -- the block that waits is padded, then P6
-abbrev pub finished : Bytes → ℕ → ℕ → Bytes
-finished v fill frame = permuted 6 (xorAt v fill (frame + 2))
+abbrev pub finish : Bytes → ℕ → ℕ → Bytes
+finish v fill frame = permuted 6 (xorAt v fill (frame + 2))
 
 module _ (r : ℕ) where
   -- one more byte comes: a full block was not the last
-  unfoldable pub opened : Held → Held
-  opened h = pick (eqb (h .fill) r) (held (finished (h .state) r 1) 0) h
+  unfoldable pub makeRoom : Held → Held
+  makeRoom h = pick (eqb (h .fill) r) (held (finish (h .state) r 1) 0) h
 
   abbrev pub step : Held → ℕ → Held
-  step h x = held (xorAt (opened h .state) (opened h .fill) x) (opened h .fill + 1)
+  step h x = held (xorAt (makeRoom h .state) (makeRoom h .fill) x) (makeRoom h .fill + 1)
 
   abbrev pub cipherByte : Held → ℕ → ℕ
-  cipherByte h x = bitXor (getD (opened h .state) (opened h .fill) 0) x
+  cipherByte h x = bitXor (getD (makeRoom h .state) (makeRoom h .fill) 0) x
 
   -- after a strip
   abbrev pub fed : Held → Bytes → Held
@@ -53,4 +53,4 @@ module _ (r : ℕ) where
 
 -- the end: the block that waits is the last
 abbrev pub ended : Held → Bytes
-ended h = tag (finished (h .state) (h .fill) 0)
+ended h = tag (finish (h .state) (h .fill) 0)

@@ -8,9 +8,11 @@ ghost use mathlib.Core.List.{_++_};
 ghost use Prim.Native.Nat.{_+_, _≤_};
 ghost use lib.ListN.{length, take, drop};
 ghost use Rattle.bytes_le.specs.Bytes.{putBytes};
+ghost use Rattle.icepole.specs.declared.Variant.the-variants.{Icepole128};
+ghost use Rattle.icepole.specs.Variants.{sizes};
 ghost use Rattle.state_bytes.specs.StateBytes.{bytesOf};
 ghost use Rattle.strips.specs.Machine.{held, fed, fedBytes, fillOf, ended};
-ghost use Rattle.strips.specs.Answers.{stripNumber, endNumber, startAnswer, startOutput, stripAnswer, stripOutput, endAnswer, endOutput};
+ghost use Rattle.strips.specs.Answers.{startNumber, stripNumber, endNumber, startAnswer, startOutput, stripAnswer, stripOutput, endAnswer, endOutput};
 
 // Strip state finished, or its count too large (01, "Turned down, by example").
 pub const STRIP_STATE: u32 = 14;
@@ -37,6 +39,28 @@ pub struct StripAnswer {
 }
 
 // ---- the numbers, from the lengths of what is lent
+// A start is turned down as sealing no message is, but for the output, which needs no room for the tag.
+pub fn start_number(
+    key: usize,
+    nonce: usize,
+    secret: usize,
+    first: usize,
+    second: usize,
+    out: usize,
+) -> u32
+    ensures { λ r. ⌜ r ≡ startNumber (sizes Icepole128) key nonce secret (first + second) out ⌝ }
+{
+    let q = icepole::sizes_of(Variant::Icepole128);
+    let number = icepole::seal_number(q, key, nonce, secret, first, second, 0, q.secret + TAG);
+    if number != 0 {
+        return number;
+    }
+    if out < q.secret {
+        return OUTPUT_TOO_SHORT;
+    }
+    0
+}
+
 fn strip_number(finished: bool, count: usize, message: usize, out: usize) -> u32
     ensures { λ r. ⌜ r ≡ stripNumber finished count message out ⌝ }
 {
@@ -142,16 +166,13 @@ pub fn start(
         × (now (out .exit) ≡ startOutput (now (key .entry)) (now (nonce .entry)) (now (secret .entry)) (now (first .entry) ++ now (second .entry)) (now (out .entry))) ⌝ }
 {
     let q = icepole::sizes_of(Variant::Icepole128);
-    // It is turned down as sealing no message would be, but needs no room for the tag.
-    let number = icepole::seal_number(
-        q,
+    let number = start_number(
         key.len(),
         nonce.len(),
         secret.len(),
         first.len(),
         second.len(),
-        0,
-        out.len() + TAG,
+        out.len(),
     );
     if number != 0 {
         return StripAnswer {

@@ -7,7 +7,7 @@ use borrow.Author.Needs.{needs}
 use lib.ListN.{length, take}
 use lib.Seq.{length-take-le}
 use Rattle.bytes_le.specs.Bytes.{Bytes, putBytes}
-use Rattle.strips.specs.Machine.{held, ended, finished}
+use Rattle.strips.specs.Machine.{held, ended}
 use Rattle.strips.proofs.Answers.{end-done, end-refused}
 use Rattle.strips.proofs.Numbers.{end-room}
 use Rattle.strips.proofs.end.Statement.{statement}

@@ -7,28 +7,25 @@ use borrow.Author.Needs.{needs}
 use Rattle.icepole.specs.Bounds.{Bounded}
 use Rattle.icepole.specs.declared.Variant.the-variants.{Icepole128}
 use Rattle.icepole.proofs.Bounds.{bounded-by}
-use Rattle.icepole.proofs.Numbers.{seal-fits}
 use Rattle.strips.proofs.Answers.{start-done, start-refused}
+use Rattle.strips.proofs.Numbers.{start-fits-by}
 use Rattle.strips.proofs.start.Statement.{statement}
 use Rattle.strips.proofs.start.Tie as tie
-
-seal-number-requires : tie.Need-seal-number-requires
-seal-number-requires c κs = bounded-by Icepole128 _ (c .sizes-of .ensures)
 
 returns : tie.Need-returns
 returns c =
     let a = c .before .before .before .before .before .before .before .before .before .args in
-    start-refused _ (c .before .before .sizes-of .ensures) (a .key .now) (a .nonce .now) (a .secret .now) (a .first .now) (a .second .now) (a .out .now) _ (c .before .seal-number .ensures) (c .if1 .taken)
+    start-refused _ (c .before .before .sizes-of .ensures) (a .key .now) (a .nonce .now) (a .secret .now) (a .first .now) (a .second .now) (a .out .now) _ (c .before .start-number .ensures) (c .if1 .taken)
 
 seal-ready-requires : tie.Need-seal-ready-requires
 seal-ready-requires c κs =
-    let w = seal-fits _ _ _ _ _ _ _ (sym (c .before .before .seal-number .ensures) ∙ c .before .if1 .left) in
-    (bounded-by Icepole128 _ (c .before .before .before .sizes-of .ensures), w .key, w .nonce, w .secret, w .associated, omega (arith, w .out))
+    let w = start-fits-by _ _ (c .before .before .before .sizes-of .ensures) _ _ _ _ _ (sym (c .before .before .start-number .ensures) ∙ c .before .if1 .left) in
+    (bounded-by Icepole128 _ (c .before .before .before .sizes-of .ensures), w .key, w .nonce, w .secret, w .associated, w .out)
 
 returns-2 : tie.Need-returns-2
 returns-2 c =
     let a = c .before .before .before .before .before .before .before .before .before .before .before .before .before .before .args in
-    start-done _ (c .before .before .before .before .before .before .before .sizes-of .ensures) (a .key .now) (a .nonce .now) (a .secret .now) (a .first .now) (a .second .now) (a .out .now) _ (c .before .before .before .before .before .before .seal-number .ensures) (c .before .before .before .before .before .if1 .left)
+    start-done _ (c .before .before .before .before .before .before .before .sizes-of .ensures) (a .key .now) (a .nonce .now) (a .secret .now) (a .first .now) (a .second .now) (a .out .now) _ (c .before .before .before .before .before .before .start-number .ensures) (c .before .before .before .before .before .if1 .left)
     _ refl _ _ (c .to-bytes .ensures ∙ c .before .before .before .seal-ready .ensures .0) (c .before .before .before .seal-ready .ensures .1)
 
 pub start-spec : {M : Type 1} → statement M
@@ -36,8 +33,7 @@ start-spec =
     tie.close
     (tie.spec
     (λ c κs. search needs)
-    (λ c. search needs)
-    seal-number-requires
+    (λ c κs. search needs)
     returns
     seal-ready-requires
     (λ c κs. search needs)

@@ -1,0 +1,145 @@
+-- The C calls of strips: the state as bytes, and what each call returns and leaves.
+-- Assumes nothing.
+use mathlib.Core.Path.{_≡_, refl, sym, ap, ap₂, _∙_}
+use mathlib.Core.List.{_++_, append-assoc}
+use mathlib.Core.Bool.{Bool, true, false, not}
+use Prim.Native.Nat.{ℕ, zero, suc, _+_, _≤_, _<_}
+use native.Mathlib.Omega.{arith}
+use borrow.Author.Tests.{ne-eqb, le-ltb, lt-ltb}
+use lib.Dec.{eqb, ltb}
+use lib.ListN.{length, length-append}
+use Rattle.bytes_le.specs.Bytes.{Bytes, putBytes, le}
+use Rattle.bytes_le.proofs.Laws.{put-put}
+use Rattle.icepole.specs.declared.Variant.the-variants.{Icepole128}
+use Rattle.icepole.specs.Variants.{sizes}
+use Rattle.icepole.specs.Sealing.{pick}
+use Rattle.icepole.specs.Answers.{unless}
+use Rattle.strips.specs.declared.StripState.{StripState}
+use Rattle.strips.specs.declared.StripAnswer.{StripAnswer}
+use Rattle.strips.specs.Answers.{startAnswer, startNumber, startOutput, startRefusal, stripAnswer, stripOutput, stripRefusal, endAnswer, endOutput, endRefusal}
+use Rattle.icepole_c.specs.Strips.{stripStateBytes, stripStateIn, startCallNumber, startCallOutput, startCallState, stripCallNumber, stripCallOutput, stripCallState, endCallNumber, endCallOutput, endCallState}
+
+-- the three runs of a state's bytes touch
+pub state-put : (b b₁ b₂ b₃ v : Bytes) (n f i j : ℕ) → 169 ≤ length b → length v ≡ 160 → i ≡ length v → b₁ ≡ putBytes b 0 v
+    → j ≡ i + 8 → b₂ ≡ putBytes b₁ i (le 8 n) → b₃ ≡ putBytes b₂ j (le 1 f) → b₃ ≡ putBytes b 0 (v ++ (le 8 n ++ le 1 f))
+state-put b b₁ b₂ b₃ v n f i j hb hv ei e₁ ej e₂ e₃ =
+    let l : length (v ++ le 8 n) ≡ 168 = length-append v (le 8 n) ∙ ap (λ (k : ℕ). k + 8) hv in
+    e₃
+    ∙ ap (λ (b : Bytes). putBytes b j (le 1 f)) (e₂ ∙ ap (λ (b : Bytes). putBytes b i (le 8 n)) e₁ ∙ put-put b 0 v (le 8 n) i (omega arith) (omega arith))
+    ∙ put-put b 0 (v ++ le 8 n) (le 1 f) j (omega arith) (omega arith)
+    ∙ ap (putBytes b 0) (append-assoc v (le 8 n) (le 1 f))
+
+-- ---- strip and end alike: what the call answers on the state in st, and the output it leaves
+module _ (st o : Bytes) (ans : StripAnswer) (o₂ : Bytes) where
+  abbrev number : ℕ
+  number = pick (ltb (length st) 169) 14 (ans .refusal)
+
+  abbrev Leaves : ℕ → Bytes → Bytes → Type 0
+  Leaves n s b = (n ≡ number) × (s ≡ unless number st (putBytes st 0 (stripStateBytes (ans .state)))) × (b ≡ unless number o o₂)
+
+  short : length st < 169 → Leaves 14 st o
+  short h = let z = lt-ltb (length st) 169 h in (sym (simp z), sym (simp z), sym (simp z))
+
+  module _ (h : 169 ≤ length st) (r : StripAnswer) (er : r ≡ ans) (o′ : Bytes) (eo : o′ ≡ o₂) where
+    refused : ((ans .refusal ≡ 0 → ⊥) → o₂ ≡ o) → (r .refusal ≡ 0 → ⊥) → Leaves (r .refusal) st o′
+    refused stays f =
+        let g : ans .refusal ≡ 0 → ⊥ = λ z. f (ap (λ (r : StripAnswer). r .refusal) er ∙ z) in
+        let z = le-ltb (length st) 169 h in
+        let w = ne-eqb (ans .refusal) 0 g in
+        (ap (λ (r : StripAnswer). r .refusal) er ∙ sym (simp z), sym (simp (z, w)), eo ∙ stays g ∙ sym (simp (z, w)))
+
+    done : r .refusal ≡ 0 → (st′ : Bytes) → st′ ≡ putBytes st 0 (stripStateBytes (r .state)) → Leaves 0 st′ o′
+    done f st′ e′ =
+        let z = le-ltb (length st) 169 h in
+        let w : ans .refusal ≡ 0 = sym (ap (λ (r : StripAnswer). r .refusal) er) ∙ f in (
+          sym (simp (z, w)),
+          e′ ∙ ap (λ (r : StripAnswer). putBytes st 0 (stripStateBytes (r .state))) er ∙ sym (simp (z, w)),
+          eo ∙ sym (simp (z, w)),
+        )
+
+pub strip-short : (st m o : Bytes) → length st < 169 → (14 ≡ stripCallNumber st m o) × (st ≡ stripCallState st m o) × (o ≡ stripCallOutput st m o)
+unfolding stripCallNumber stripCallState stripCallOutput stripAnswer
+strip-short st m o = short st o (stripAnswer (stripStateIn st) m o) (stripOutput (stripStateIn st) m o)
+
+-- s is the state that the code read
+module _ (st m o : Bytes) (h : 169 ≤ length st) (s : StripState) (es : s ≡ stripStateIn st) (r : StripAnswer) (er : r ≡ stripAnswer s m o) (o′ : Bytes) (eo : o′ ≡ stripOutput s m o) where
+  pub strip-refused : (r .refusal ≡ 0 → ⊥) → (r .refusal ≡ stripCallNumber st m o) × (st ≡ stripCallState st m o) × (o′ ≡ stripCallOutput st m o)
+  unfolding stripCallNumber stripCallState stripCallOutput stripAnswer stripOutput
+  strip-refused =
+      refused st o (stripAnswer (stripStateIn st) m o) (stripOutput (stripStateIn st) m o) h r (er ∙ ap (λ (s : StripState). stripAnswer s m o) es) o′ (eo ∙ ap (λ (s : StripState). stripOutput s m o) es)
+      (λ g. simp (ne-eqb (stripRefusal (stripStateIn st) m o) 0 g) refl)
+
+  pub strip-done : r .refusal ≡ 0 → (st′ : Bytes) → st′ ≡ putBytes st 0 (stripStateBytes (r .state))
+      → (0 ≡ stripCallNumber st m o) × (st′ ≡ stripCallState st m o) × (o′ ≡ stripCallOutput st m o)
+  unfolding stripCallNumber stripCallState stripCallOutput stripAnswer
+  strip-done =
+      done st o (stripAnswer (stripStateIn st) m o) (stripOutput (stripStateIn st) m o) h r (er ∙ ap (λ (s : StripState). stripAnswer s m o) es) o′ (eo ∙ ap (λ (s : StripState). stripOutput s m o) es)
+
+pub end-short : (st o : Bytes) → length st < 169 → (14 ≡ endCallNumber st o) × (st ≡ endCallState st o) × (o ≡ endCallOutput st o)
+unfolding endCallNumber endCallState endCallOutput endAnswer
+end-short st o = short st o (endAnswer (stripStateIn st) o) (endOutput (stripStateIn st) o)
+
+-- s is the state that the code read
+module _ (st o : Bytes) (h : 169 ≤ length st) (s : StripState) (es : s ≡ stripStateIn st) (r : StripAnswer) (er : r ≡ endAnswer s o) (o′ : Bytes) (eo : o′ ≡ endOutput s o) where
+  pub end-refused : (r .refusal ≡ 0 → ⊥) → (r .refusal ≡ endCallNumber st o) × (st ≡ endCallState st o) × (o′ ≡ endCallOutput st o)
+  unfolding endCallNumber endCallState endCallOutput endAnswer endOutput
+  end-refused =
+      refused st o (endAnswer (stripStateIn st) o) (endOutput (stripStateIn st) o) h r (er ∙ ap (λ (s : StripState). endAnswer s o) es) o′ (eo ∙ ap (λ (s : StripState). endOutput s o) es)
+      (λ g. simp (ne-eqb (endRefusal (stripStateIn st) o) 0 g) refl)
+
+  pub end-done : r .refusal ≡ 0 → (st′ : Bytes) → st′ ≡ putBytes st 0 (stripStateBytes (r .state))
+      → (0 ≡ endCallNumber st o) × (st′ ≡ endCallState st o) × (o′ ≡ endCallOutput st o)
+  unfolding endCallNumber endCallState endCallOutput endAnswer
+  end-done =
+      done st o (endAnswer (stripStateIn st) o) (endOutput (stripStateIn st) o) h r (er ∙ ap (λ (s : StripState). endAnswer s o) es) o′ (eo ∙ ap (λ (s : StripState). endOutput s o) es)
+
+-- ---- start
+-- the number from the lengths
+pub start-number-of : (k n s f g o : Bytes) (num : ℕ) → num ≡ startNumber (sizes Icepole128) (length k) (length n) (length s) (length f + length g) (length o)
+    → num ≡ startRefusal k n s (f ++ g) o
+unfolding startRefusal
+start-number-of k n s f g o num e =
+    e ∙ ap (λ (a : ℕ). startNumber (sizes Icepole128) (length k) (length n) (length s) a (length o)) (sym (length-append f g))
+
+module _ (k n s a o st : Bytes) where
+  pub start-short-refused : length st < 169 → (num : ℕ) → num ≡ startRefusal k n s a o → (num ≡ 0 → ⊥)
+      → (num ≡ startCallNumber k n s a o st) × (o ≡ startCallOutput k n s a o st) × (st ≡ startCallState k n s a o st)
+  unfolding startCallNumber startCallOutput startCallState
+  start-short-refused h num e f =
+      let w = ne-eqb (startRefusal k n s a o) 0 (λ z. f (e ∙ z)) in
+      (e ∙ sym (simp w), sym (simp w), sym (simp (lt-ltb (length st) 169 h)))
+
+  pub start-short : length st < 169 → (num : ℕ) → num ≡ startRefusal k n s a o → num ≡ 0
+      → (5 ≡ startCallNumber k n s a o st) × (o ≡ startCallOutput k n s a o st) × (st ≡ startCallState k n s a o st)
+  unfolding startCallNumber startCallOutput startCallState
+  start-short h num e f =
+      let w : startRefusal k n s a o ≡ 0 = sym e ∙ f in
+      let z = lt-ltb (length st) 169 h in
+      (sym (simp (w, z)), sym (simp (w, z)), sym (simp z))
+
+  -- the number is that of start where the state is long enough
+  start-number : 169 ≤ length st → startCallNumber k n s a o st ≡ startRefusal k n s a o
+  unfolding startCallNumber
+  start-number h = simp (le-ltb (length st) 169 h) (by (startRefusal k n s a o))
+    where
+      by : (i : ℕ) → pick (not (eqb i 0)) i 0 ≡ i
+      by zero = refl
+      by (suc i) = rw (ne-eqb (suc i) 0 (λ z. omega arith)) refl
+
+  -- an output that stays where it is refused stays so under the same number
+  twice : (i : ℕ) (o o′ : Bytes) → unless i o o′ ≡ unless i o (unless i o o′)
+  twice i o o′ = by (eqb i 0)
+    where
+      by : (b : Bool) → pick b o′ o ≡ pick b (pick b o′ o) o
+      by true = refl
+      by false = refl
+
+  pub start-called : 169 ≤ length st → (r : StripAnswer) → r ≡ startAnswer k n s a o → (o′ : Bytes) → o′ ≡ startOutput k n s a o
+      → (st′ : Bytes) → st′ ≡ putBytes st 0 (stripStateBytes (r .state))
+      → (r .refusal ≡ startCallNumber k n s a o st) × (o′ ≡ startCallOutput k n s a o st) × (st′ ≡ startCallState k n s a o st)
+  unfolding startCallOutput startCallState startAnswer startOutput
+  start-called h r er o′ eo st′ es = (
+    ap (λ (r : StripAnswer). r .refusal) er ∙ sym (start-number h),
+    eo ∙ twice (startRefusal k n s a o) o _ ∙ ap (λ (i : ℕ). unless i o (startOutput k n s a o)) (sym (start-number h)),
+    es ∙ ap (λ (r : StripAnswer). putBytes st 0 (stripStateBytes (r .state))) er ∙ sym (simp (le-ltb (length st) 169 h)),
+  )

@@ -1,0 +1,62 @@
+-- The C calls of strips. The state is lent as 169 bytes: the state's 160, the count (8), and 1 where it is finished, else 0.
+-- Assumes nothing.
+use mathlib.Core.Bool.{Bool, true, false, not}
+use mathlib.Core.List.{List, [], _∷_, _++_}
+use Prim.Native.Nat.{ℕ}
+use lib.Dec.{eqb, ltb}
+use lib.ListN.{length, take, getD}
+use Rattle.bytes_le.specs.Bytes.{Bytes, putBytes, le, leAt}
+use Rattle.icepole.specs.Sealing.{pick}
+use Rattle.icepole.specs.Answers.{_when_, refusal, unless}
+use Rattle.strips.specs.declared.StripState.{StripState}
+use Rattle.strips.specs.Answers.{startRefusal, startAnswer, startOutput, stripAnswer, stripOutput, stripRefusal, endAnswer, endOutput, endRefusal}
+
+abbrev pub stripStateLength : ℕ
+stripStateLength = 169
+
+abbrev pub flag : Bool → ℕ
+flag true = 1
+flag false = 0
+
+abbrev pub stripStateBytes : StripState → Bytes
+stripStateBytes s = s .bytes ++ (le 8 (s .count) ++ le 1 (flag (s .finished)))
+
+-- any byte but 0 is read as finished
+abbrev pub stripStateIn : Bytes → StripState
+stripStateIn b = record { bytes = take 160 b; count = leAt 8 b 160; finished = not (eqb (getD b 168 0) 0) }
+
+-- ---- start: its numbers, then 5 for the state. The state that it returns is put where it is lent, that of a start turned down too
+module _ (key nonce secret ad out state : Bytes) where
+  unfoldable pub startCallNumber : ℕ
+  startCallNumber =
+      refusal
+      ((startRefusal key nonce secret ad out when not (eqb (startRefusal key nonce secret ad out) 0))
+      ∷ (5 when ltb (length state) stripStateLength)
+      ∷ [])
+
+  unfoldable pub startCallOutput : Bytes
+  startCallOutput = unless startCallNumber out (startOutput key nonce secret ad out)
+
+  unfoldable pub startCallState : Bytes
+  startCallState = pick (ltb (length state) stripStateLength) state (putBytes state 0 (stripStateBytes (startAnswer key nonce secret ad out .state)))
+
+-- ---- strip and end: too few bytes are no state, which is 14
+module _ (state m out : Bytes) where
+  unfoldable pub stripCallNumber : ℕ
+  stripCallNumber = pick (ltb (length state) stripStateLength) 14 (stripRefusal (stripStateIn state) m out)
+
+  unfoldable pub stripCallOutput : Bytes
+  stripCallOutput = unless stripCallNumber out (stripOutput (stripStateIn state) m out)
+
+  unfoldable pub stripCallState : Bytes
+  stripCallState = unless stripCallNumber state (putBytes state 0 (stripStateBytes (stripAnswer (stripStateIn state) m out .state)))
+
+module _ (state out : Bytes) where
+  unfoldable pub endCallNumber : ℕ
+  endCallNumber = pick (ltb (length state) stripStateLength) 14 (endRefusal (stripStateIn state) out)
+
+  unfoldable pub endCallOutput : Bytes
+  endCallOutput = unless endCallNumber out (endOutput (stripStateIn state) out)
+
+  unfoldable pub endCallState : Bytes
+  endCallState = unless endCallNumber state (putBytes state 0 (stripStateBytes (endAnswer (stripStateIn state) out .state)))
