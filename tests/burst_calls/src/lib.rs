@@ -1,7 +1,10 @@
 //! The C calls of the burst file, and what their tests share.
 
+pub mod draft;
 pub mod lent;
 pub mod list;
+pub mod random_list;
+pub mod random_read;
 pub mod reading;
 pub mod recording;
 pub mod script;

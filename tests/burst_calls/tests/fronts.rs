@@ -2,109 +2,13 @@
 //! are right: a reader without that rule would not answer 12. And headers whose
 //! sums agree only in 16 or in 32 bits.
 
-use burst_calls::list::{bytes, KEY, SITE_MARK};
+use burst_calls::draft::{draft, Draft};
+use burst_calls::list::KEY;
 use burst_calls::reading::{check_check, check_fetch, check_record, check_refused, CHECK_INFO};
-use reference::burst::layout::seal_shot;
 use reference::burst::lister::list;
 use reference::burst::reader::{front, Front};
 use reference::burst::{Entry, Header};
 use reference::random::SplitMix64;
-
-const BURST: u64 = 0x0123_4567_89AB_CDEF;
-
-/// A file that need not obey the rules: what its front says, and where its
-/// parts really stand.
-#[derive(Clone)]
-struct Draft {
-    header: Header,
-    entries: Vec<Entry>,
-    /// Where each record stands, and the length of its picture.
-    records: Vec<(usize, usize)>,
-    index_at: usize,
-    closing_at: usize,
-    length: usize,
-}
-
-/// Shots and lengths of kept pictures, laid out by the rules.
-fn draft(taken: u16, kept: &[(u16, u32)]) -> Draft {
-    let header = Header {
-        edition: 1,
-        taken,
-        kept: kept.len() as u16,
-        dropped: taken.wrapping_sub(kept.len() as u16),
-        burst_number: BURST,
-        picture_offset: 32,
-        index_offset: 0,
-        closing_offset: 0,
-        total: 0,
-    };
-    let entry = |(shot, length): &(u16, u32)| Entry {
-        shot: *shot,
-        zero: 0,
-        offset: 0,
-        length: *length,
-    };
-    let mut draft = Draft {
-        header,
-        entries: kept.iter().map(entry).collect(),
-        records: Vec::new(),
-        index_at: 0,
-        closing_at: 0,
-        length: 0,
-    };
-    draft.lay_out(32);
-    draft
-}
-
-impl Draft {
-    /// The records touch, from `start` on; index and closing seal follow.
-    fn lay_out(&mut self, start: u32) {
-        let mut offset = start;
-        for entry in &mut self.entries {
-            entry.offset = offset;
-            offset += entry.length + 32;
-        }
-        self.lay_out_index(offset);
-    }
-
-    /// The records stand where the entries say.
-    fn lay_out_index(&mut self, at: u32) {
-        let record = |entry: &Entry| (entry.offset as usize, entry.length as usize);
-        self.records = self.entries.iter().map(record).collect();
-        self.index_at = at as usize;
-        self.header.index_offset = at;
-        self.lay_out_closing(at + 12 * self.entries.len() as u32);
-    }
-
-    fn lay_out_closing(&mut self, at: u32) {
-        self.closing_at = at as usize;
-        self.header.closing_offset = at;
-        self.header.total = at + 32;
-        self.length = self.header.total as usize;
-    }
-
-    /// The bytes, every seal worked out from the front as it is.
-    fn file(&self) -> Vec<u8> {
-        let mut file = vec![0; self.length];
-        let mut write = |at: usize, bytes: &[u8]| {
-            file[at..at + bytes.len()].copy_from_slice(bytes);
-        };
-        let burst = self.header.burst_number;
-        for (entry, (at, length)) in self.entries.iter().zip(&self.records) {
-            let picture = bytes(entry.shot as usize, *length);
-            let ad: [&[u8]; 2] = [&entry.to_bytes(), &[]];
-            let sealed = seal_shot(&KEY, burst, entry.shot, &[9; 16], ad, &picture);
-            write(*at, &sealed);
-        }
-        let header = self.header.to_bytes();
-        let index: Vec<u8> = self.entries.iter().flat_map(Entry::to_bytes).collect();
-        let closing = seal_shot(&KEY, burst, 0, &SITE_MARK, [&header, &index], &[]);
-        write(0, &header);
-        write(self.index_at, &index);
-        write(self.closing_at, &closing);
-        file
-    }
-}
 
 /// Shot 1 of 5 bytes and shot 3 of 7 bytes, of 3 taken.
 fn base() -> Draft {

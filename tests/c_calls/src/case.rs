@@ -111,6 +111,53 @@ impl Case {
         )
     }
 
+    /// The C sealing into an output of `out_len` bytes does what the
+    /// reference's does, or is refused as that is. Gives the number.
+    pub fn check_seal(&self, out_len: usize) -> u32 {
+        let what = || format!("sealing, out {out_len}, {}", self.describe());
+        let lent = self.clone();
+        let mut out = Lent::new(out_len);
+        let number = lent.seal(out.slice());
+        assert!(lent == *self, "an input changed, {}", what());
+        match self.reference_seal(out_len) {
+            Ok(sealed) => {
+                assert_eq!(number, 0, "{}", what());
+                out.check_written(&sealed, &what);
+            }
+            Err(refusal) => {
+                assert_eq!(number, refusal, "{}", what());
+                out.check_untouched(&what);
+            }
+        }
+        number
+    }
+
+    /// The C opening into buffers of these lengths does what the reference's
+    /// does, or is refused as that is. Gives the number.
+    pub fn check_open(&self, sealed: &[u8], out_len: usize, info_len: usize) -> u32 {
+        let what = || {
+            let (sealed, case) = (sealed.len(), self.describe());
+            format!("opening, sealed {sealed}, out {out_len}, info {info_len}, {case}")
+        };
+        let lent = self.clone();
+        let (mut out, mut info) = (Lent::new(out_len), Lent::new(info_len));
+        let number = lent.open(sealed, out.slice(), info.slice());
+        assert!(lent == *self, "an input changed, {}", what());
+        match self.reference_open(sealed, out_len, info_len) {
+            Ok((message, secret)) => {
+                assert_eq!(number, 0, "{}", what());
+                out.check_written(&message, &what);
+                info.check_written(&info_written(message.len(), &secret), &what);
+            }
+            Err(refusal) => {
+                assert_eq!(number, refusal, "{}", what());
+                out.check_untouched(&what);
+                info.check_untouched(&what);
+            }
+        }
+        number
+    }
+
     /// The case is sealed as `sealed` says, into an output that is longer by `spare`.
     pub fn check_seals_as(&self, sealed: &[u8], spare: usize) {
         let mut out = Lent::new(sealed.len() + spare);

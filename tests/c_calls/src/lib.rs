@@ -2,6 +2,7 @@
 
 pub mod case;
 pub mod lent;
+pub mod random;
 
 use reference::sealing::Variant;
 

@@ -1,0 +1,94 @@
+//! One random read of a file that may be damaged, by check, fetch and record.
+
+use crate::list::{bytes, file_of, KEY};
+use crate::reading::{check_check, check_fetch, check_record, CHECK_INFO, FETCH_INFO};
+use reference::random::SplitMix64;
+
+/// The number itself, one less, one more, or anything below 100.
+fn around(generator: &mut SplitMix64, number: usize) -> usize {
+    match generator.below(8) {
+        0 => number.saturating_sub(1),
+        1 => number + 1,
+        2 => generator.below(100),
+        3 => 0,
+        _ => number,
+    }
+}
+
+/// Bytes changed, bytes cut off or put on, or parts of another file put in.
+fn spoil(generator: &mut SplitMix64, file: &mut Vec<u8>, other: &[u8]) {
+    match generator.below(6) {
+        0 => {
+            for _ in 0..=generator.below(3) {
+                let at = generator.below(file.len());
+                file[at] ^= 1 << generator.below(8);
+            }
+        }
+        1 => {
+            let length = match generator.below(3) {
+                0 => generator.below(file.len()),
+                1 => file.len() - 1,
+                _ => file.len() + 1 + generator.below(40),
+            };
+            file.resize(length, 0);
+        }
+        2 => {
+            let end = file.len().min(other.len());
+            let from = generator.below(end);
+            let to = from + generator.below(end - from + 1);
+            file[from..to].copy_from_slice(&other[from..to]);
+        }
+        3 => {
+            // Front fields alone, so that few changes meet many rules.
+            for _ in 0..=generator.below(2) {
+                let at = [2, 4, 6, 20, 24, 28][generator.below(6)];
+                file[at] = file[at].wrapping_add([1, 255, 12, 244][generator.below(4)]);
+            }
+        }
+        _ => {}
+    }
+}
+
+/// The key, but sometimes another or one of another length.
+fn random_key(generator: &mut SplitMix64) -> Vec<u8> {
+    let mut key = KEY.to_vec();
+    match generator.below(20) {
+        0 => key = bytes(1, around(generator, 16)),
+        1 => key[3] ^= 4,
+        _ => {}
+    }
+    key
+}
+
+fn random_place(generator: &mut SplitMix64) -> u16 {
+    match generator.below(10) {
+        0 => generator.next_word() as u16,
+        1 => 256 * generator.below(256) as u16,
+        _ => generator.below(7) as u16,
+    }
+}
+
+/// Check, fetch and record of one file do what the reference does. Gives their
+/// numbers.
+pub fn read_call(generator: &mut SplitMix64, what: &dyn Fn() -> String) -> [u32; 3] {
+    let count = generator.below(7);
+    let lengths: Vec<usize> = (0..count).map(|_| generator.below(40)).collect();
+    let mut file = file_of(generator.below(3) as u64, &lengths);
+    let other = file_of(generator.below(2) as u64, &lengths);
+    spoil(generator, &mut file, &other);
+
+    let key = random_key(generator);
+    let place = random_place(generator);
+    // The length of a picture of this list, often of the fetched one.
+    let mut kept = lengths.into_iter().filter(|length| *length > 0);
+    let picture = kept.nth(usize::from(place)).unwrap_or(9);
+    let out_len = around(generator, picture);
+    let info_len = around(generator, FETCH_INFO);
+
+    let what = || format!("{}, {} bytes", what(), file.len());
+    let info = around(generator, CHECK_INFO);
+    let checked = check_check(&key, &file, info, &what);
+    let fetched = check_fetch(&key, &file, place, (out_len, info_len), &what);
+    let recorded = check_record(&key, &file, place, &what);
+    [checked.0, fetched.0, recorded.0]
+}
