@@ -1,8 +1,10 @@
 //! Damaged, cut and mixed files are refused by check, fetch and record, with
 //! the number and the mark of the reference, and nothing is written.
 
+use burst_calls::lent::Lent;
 use burst_calls::list::{burst_of, file_of, KEY};
-use burst_calls::reading::{check_check, check_fetch, check_record, check_refused, CHECK_INFO};
+use burst_calls::reading::{check_check, check_refused, CHECK_INFO, FETCH_INFO};
+use reference::burst::reader::RecordPart;
 use reference::burst::{Header, PlainBurst};
 
 /// Refused by the calls and the reference with this number and mark.
@@ -11,56 +13,150 @@ fn assert_refused(file: &[u8], number: u32, mark: u32, what: &str) {
     assert_eq!(refused, (number, mark), "{what}");
 }
 
-/// What check makes of the example file, shot 2 of 3 kept, with one byte
-/// changed. The shot number in the entry may still be one of the three.
-fn expected_in_example(at: usize, changed: &[u8]) -> (u32, u32) {
+/// What check makes of a file of these shots, 0 for a dropped one, with one
+/// byte changed: worked out from the layout alone. The front still holds only
+/// with another burst number, or another shot number that fits between its
+/// neighbours.
+fn expected(lengths: &[usize], changed: &[u8], at: usize) -> (u32, u32) {
+    let kept = || (1..).zip(lengths).filter(|(_, length)| **length > 0);
+    let mut index = 32;
+    for (shot, length) in kept() {
+        let end = index + length + 32;
+        if (index..end).contains(&at) {
+            return (7, shot);
+        }
+        index = end;
+    }
+    let closing = index + 12 * kept().count();
+    let entries = changed[index..closing].chunks(12);
+    let shots: Vec<u16> = entries
+        .map(|entry| u16::from_le_bytes([entry[0], entry[1]]))
+        .collect();
+    let rise = shots.windows(2).all(|two| two[0] < two[1]);
+    let in_range = |shot: &u16| (1..=lengths.len()).contains(&usize::from(*shot));
     match at {
         8..16 => (7, 0),
-        32..67 => (7, 2),
-        67..69 if (1..=3).contains(&changed[67]) && changed[68] == 0 => (7, 0),
-        79..111 => (7, 0),
+        _ if at >= closing => (7, 0),
+        _ if at < index || (at - index) % 12 > 1 => (12, 0),
+        _ if rise && shots.iter().all(in_range) => (7, 0),
         _ => (12, 0),
     }
 }
 
-#[test]
-fn every_value_of_every_byte() {
-    let file = file_of(7, &[0, 3, 0]);
-    assert_eq!(file.len(), 111);
+/// Check is refused as the reference refuses, and fetch and record of a place
+/// as check is; nothing is written. Gives the number and the mark.
+fn refused_at(file: &[u8], place: u16, what: &dyn Fn() -> String) -> (u32, u32) {
+    let refused = check_check(&KEY, file, CHECK_INFO, what);
+    let (mut out, mut info) = (Lent::of(129), Lent::of(FETCH_INFO));
+    let fetched = burst_calls::fetch(&KEY, file, place, out.slice(), info.slice());
+    assert_eq!(fetched, refused, "fetch {place}, {}", what());
+    out.check_untouched(&|| format!("out, fetch {place}, {}", what()));
+    info.check_untouched(&|| format!("info, fetch {place}, {}", what()));
+    let part = RecordPart {
+        number: refused.0,
+        mark: refused.1,
+        offset: 0,
+        length: 0,
+    };
+    let recorded = burst_calls::record(&KEY, file, place);
+    assert_eq!(recorded, part, "record {place}, {}", what());
+    refused
+}
+
+/// The file of these shots with one byte changed, for every byte, to each of
+/// the values but its own: refused by the three calls as the layout says. The
+/// places go round, the first that is not there among them.
+fn every_byte(lengths: &[usize], values: impl Fn(u8) -> Vec<u8>) {
+    let file = file_of(7, lengths);
+    let kept = lengths.iter().filter(|length| **length > 0).count();
+    let mut places = (0..=kept as u16).cycle();
+    let mut changed = file.clone();
     for at in 0..file.len() {
-        for value in (0..=255).filter(|value| *value != file[at]) {
-            let mut changed = file.clone();
+        for value in values(file[at]) {
+            if value == file[at] {
+                continue;
+            }
             changed[at] = value;
-            let what = || format!("byte {at} value {value}");
-            let checked = check_check(&KEY, &changed, CHECK_INFO, &what);
-            let fetched = check_fetch(&KEY, &changed, 0, (3, 22), &what);
-            let recorded = check_record(&KEY, &changed, 0, &what);
-            let expected = expected_in_example(at, &changed);
-            assert_eq!([checked, fetched, recorded], [expected; 3], "{}", what());
+            let what = || format!("{lengths:?}, byte {at} value {value:#04x}");
+            let refused = refused_at(&changed, places.next().unwrap(), &what);
+            assert_eq!(refused, expected(lengths, &changed, at), "{}", what());
         }
+        changed[at] = file[at];
     }
 }
 
-/// One bit, and the whole byte, at every place of files with more pictures.
+/// Each bit, the whole byte, and the two ends of its range.
+fn flips_and_ends(byte: u8) -> Vec<u8> {
+    let flips = (0..8).map(|bit| byte ^ (1 << bit));
+    flips.chain([!byte, 0, 255]).collect()
+}
+
+#[test]
+fn every_value_of_every_byte() {
+    assert_eq!(file_of(7, &[0, 3, 0]).len(), 111);
+    for lengths in [&[0, 3, 0][..], &[], &[1], &[4, 0], &[0, 0, 0]] {
+        every_byte(lengths, |_| (0..=255).collect());
+    }
+}
+
+#[test]
+fn every_byte_of_pictures_around_a_block() {
+    for length in [1, 127, 128, 129] {
+        every_byte(&[length], flips_and_ends);
+        every_byte(&[0, length, 0], flips_and_ends);
+    }
+}
+
+#[test]
+fn every_byte_of_a_burst_without_pictures() {
+    assert_eq!(file_of(7, &[]).len(), 64);
+    for lengths in [&[][..], &[0], &[0; 60]] {
+        every_byte(lengths, flips_and_ends);
+    }
+}
+
+#[test]
+fn every_byte_with_the_last_shot_dropped() {
+    for lengths in [&[4, 0][..], &[128, 1, 0], &[0, 5, 0, 0]] {
+        every_byte(lengths, flips_and_ends);
+    }
+}
+
+#[test]
+fn every_byte_of_a_mixture() {
+    for lengths in [&[0, 5, 2, 0, 129, 1][..], &[127, 0, 128, 129, 0, 0, 1, 0]] {
+        every_byte(lengths, flips_and_ends);
+    }
+}
+
+#[test]
+fn every_byte_of_sixty_shots() {
+    every_byte(&[1; 60], flips_and_ends);
+}
+
+/// Sixty shots, every third dropped: an entry's shot number can fit elsewhere.
+#[test]
+fn every_byte_of_sixty_shots_with_gaps() {
+    let lengths: Vec<usize> = (0..60).map(|shot| shot % 3).collect();
+    every_byte(&lengths, flips_and_ends);
+}
+
+/// Every other way to call fetch and record on a damaged file: places, outputs
+/// and infos that are refused too, but later in the order.
 #[test]
 fn every_bit_of_every_byte() {
     for lengths in [&[][..], &[0, 3, 0], &[0, 5, 2, 0, 129, 1]] {
         let file = file_of(7, lengths);
-        let mut marks = vec![0; 1 + lengths.len()];
         for at in 0..file.len() {
-            for change in (0..8).map(|bit| 1 << bit).chain([0xFF]) {
+            for value in flips_and_ends(file[at]) {
                 let mut changed = file.clone();
-                changed[at] ^= change;
-                let what = || format!("{lengths:?}, byte {at} xor {change:#x}");
-                let (number, mark) = check_refused(&KEY, &changed, &what);
-                assert!([7, 12].contains(&number), "{}", what());
-                marks[mark as usize] += usize::from(number == 7);
+                changed[at] = value;
+                if changed != file {
+                    let (number, mark) = expected(lengths, &changed, at);
+                    let what = format!("{lengths:?}, byte {at} value {value:#04x}");
+                    assert_refused(&changed, number, mark, &what);
+                }
             }
-        }
-        // Every byte of every record has its shot number as the mark.
-        for (shot, length) in (1..).zip(lengths) {
-            let bytes = if *length > 0 { length + 32 } else { 0 };
-            assert_eq!(marks[shot], 9 * bytes, "shot {shot}");
         }
     }
 }
