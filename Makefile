@@ -18,3 +18,10 @@ lib:
 # Times the proved code against C in one run, and counts its instructions.
 bench:
 	@sh bench/run.sh
+
+# Random cases, the proved calls against the reference: `make soak COUNT=1000000 SEED=7`. Without SEED the clock gives it.
+.PHONY: soak
+COUNT = 1000000
+SEED =
+soak: lib
+	@cd tests && cargo run --offline --release --quiet -p soak -- $(COUNT) $(SEED)

@@ -3,6 +3,7 @@
 pub mod draft;
 pub mod lent;
 pub mod list;
+pub mod random_front;
 pub mod random_list;
 pub mod random_read;
 pub mod reading;

@@ -49,6 +49,14 @@ fn spoil(generator: &mut SplitMix64, file: &mut Vec<u8>, other: &[u8]) {
     }
 }
 
+/// Up to 39 bytes, 0 for a dropped shot; one in eight around a block.
+fn random_length(generator: &mut SplitMix64) -> usize {
+    match generator.below(8) {
+        0 => 127 + generator.below(3),
+        _ => generator.below(40),
+    }
+}
+
 /// The key, but sometimes another or one of another length.
 fn random_key(generator: &mut SplitMix64) -> Vec<u8> {
     let mut key = KEY.to_vec();
@@ -72,7 +80,7 @@ fn random_place(generator: &mut SplitMix64) -> u16 {
 /// numbers.
 pub fn read_call(generator: &mut SplitMix64, what: &dyn Fn() -> String) -> [u32; 3] {
     let count = generator.below(7);
-    let lengths: Vec<usize> = (0..count).map(|_| generator.below(40)).collect();
+    let lengths: Vec<usize> = (0..count).map(|_| random_length(generator)).collect();
     let mut file = file_of(generator.below(3) as u64, &lengths);
     let other = file_of(generator.below(2) as u64, &lengths);
     spoil(generator, &mut file, &other);
