@@ -10,10 +10,10 @@ demo: lib
 test:
 	@sh scripts/test.sh
 
-# target/staticlib/libicepole_c.a and libburst_c.a, for C to link; include/icepole.h and include/burst.h declare what is in them.
+# The folder build/lib, for C firmware: libicepole_c.a and libburst_c.a, their headers icepole.h and burst.h, and icepole.pc and burst.pc for pkg-config. It can be
+# moved. The libraries stand in target/staticlib too, where the tests link them.
 lib:
-	@rt staticlib icepole_c
-	@rt staticlib burst_c
+	@sh scripts/lib.sh
 
 # Times the proved code against C in one run, and counts its instructions.
 bench:

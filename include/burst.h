@@ -1,8 +1,8 @@
 /*
  * Burst files of trail cameras: recording, checking and reading back.
  *
- * The functions are written in Rattle and proved to meet their contracts (crates/burst_c). Link target/staticlib/libburst_c.a,
- * which `make lib` builds.
+ * The functions are written in Rattle and proved to meet their contracts (crates/burst_c). Link libburst_c.a, which `make lib`
+ * leaves beside this header in build/lib.
  *
  * Slices. Every slice is a pointer and a length in bytes. The pointers are valid for their lengths, and slices and numbers that are
  * written overlap nothing else that is lent; the proofs assume it. NULL is not allowed, not even with length 0: an empty slice is any

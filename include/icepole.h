@@ -1,8 +1,8 @@
 /*
  * ICEPOLE-128, ICEPOLE-128a and ICEPOLE-256a: authenticated encryption of whole messages.
  *
- * The functions are written in Rattle and proved to meet their contracts (crates/icepole_c). Link target/staticlib/libicepole_c.a,
- * which `make lib` builds.
+ * The functions are written in Rattle and proved to meet their contracts (crates/icepole_c). Link libicepole_c.a, which `make lib`
+ * leaves beside this header in build/lib.
  *
  * Slices. Every slice is a pointer and a length in bytes. The pointers are valid for their lengths, and out and info overlap no other
  * slice; the proofs assume it. Slices that are only read may overlap. NULL is not allowed, not even with length 0: an empty slice is

@@ -6,12 +6,12 @@ failed=0
 
 # A step that is not a counting runner: one test, passed or failed.
 step() {
-    name=$1
+    title=$1
     shift
     if "$@"; then
         passed=$((passed + 1))
     else
-        echo "FAILED: $name"
+        echo "FAILED: $title"
         failed=$((failed + 1))
     fi
 }
@@ -58,16 +58,41 @@ rust_tests() {
     fi
 }
 
-# A C program of the tests, compiled with the headers as a firmware author would, and run under valgrind with buffers of the exact size.
+# Runs a program and says its last line, or all lines where it fails. They stay in build/run.log.
+run() {
+    "$@" >build/run.log 2>&1 || { cat build/run.log; return 1; }
+    tail -n 1 build/run.log
+}
+
+c="gcc -std=c11 -Wall -Wextra -Werror -pedantic -g"
+
+# A C program, its library and its arguments: compiled with the headers as a firmware author would, and run under valgrind. Its buffers have the exact size, so
+# that valgrind sees the library read or write beside them.
 c_program() {
     name=$(basename "$1" .c)
-    gcc -std=c11 -Wall -Wextra -Werror -pedantic -g -Iinclude "$1" "target/staticlib/$2" -o "build/$name" &&
-        "build/$name" || return 1
+    $c -Iinclude "$1" "target/staticlib/$2" -o "build/$name" || return 1
+    shift 2
+    run "build/$name" "$@" || return 1
     if command -v valgrind >/dev/null; then
-        valgrind -q --error-exitcode=1 --leak-check=full "build/$name"
+        run valgrind -q --error-exitcode=1 --leak-check=full "build/$name" "$@"
     else
         echo "valgrind is not here: $name ran without it"
     fi
+}
+
+# The folder of make lib, moved: a program and its library compile there, through pkg-config where it is installed.
+moved_folder() {
+    rm -rf build/moved && cp -r build/lib build/moved || return 1
+    if command -v pkg-config >/dev/null; then
+        echo "build/lib: through pkg-config"
+        flags=$(PKG_CONFIG_PATH=build/moved pkg-config --cflags --libs "$2") || return 1
+    else
+        echo "build/lib: with -I and the .a file, pkg-config is not here"
+        flags="-Ibuild/moved build/moved/lib$2_c.a"
+    fi
+    $c "$1" $flags -o build/moved/program || return 1
+    shift 2
+    run build/moved/program "$@"
 }
 
 lib() {
@@ -81,6 +106,7 @@ prove
 step "make lib" lib
 step "the C program of sealing" c_program tests/c_calls/c/roundtrip.c libicepole_c.a
 step "the C program of bursts" c_program tests/burst_calls/c/record_and_read.c libburst_c.a
+step "icepole from build/lib" moved_folder tests/c_calls/c/roundtrip.c icepole
 rust_tests
 echo "$passed passed, $failed failed" | tee build/result
 [ "$failed" -eq 0 ]

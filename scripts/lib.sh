@@ -1,0 +1,25 @@
+#!/bin/sh
+# Builds both static libraries in target/staticlib, and gathers in build/lib what C firmware needs: the libraries, their headers and a pkg-config file for each.
+# The pkg-config files name the folder that they stand in, so the folder works from wherever it is moved.
+set -e
+cd "$(dirname "$0")/.."
+folder=build/lib
+
+# A library, its header and its pkg-config file: NAME, and what it is.
+gather() {
+    cp "target/staticlib/lib$1_c.a" "include/$1.h" $folder
+    cat >"$folder/$1.pc" <<END
+Name: $1
+Description: $2
+Version: 0.1.0
+Cflags: -I\${pcfiledir}
+Libs: -L\${pcfiledir} -l$1_c
+END
+}
+
+rt staticlib icepole_c
+rt staticlib burst_c
+rm -rf $folder
+mkdir -p $folder
+gather icepole "ICEPOLE-128, 128a and 256a: authenticated encryption of whole messages"
+gather burst "Burst files of trail cameras: recording, checking and reading back"
