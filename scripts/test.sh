@@ -80,6 +80,21 @@ c_program() {
     fi
 }
 
+# The example says what examples/firmware.out has.
+example() {
+    c_program examples/firmware.c libburst_c.a build/card.burst && diff examples/firmware.out build/run.log
+}
+
+# A card that is full after some thousand bytes: no file is left, and one that was there stays.
+full_card() {
+    rm -rf build/card && mkdir build/card && echo before >build/card/old || return 1
+    for file in old new; do
+        (trap '' XFSZ && ulimit -f 8 && build/firmware "build/card/$file") >build/run.log && return 1
+        grep -q '^the card does not take the file$' build/run.log || return 1
+    done
+    [ "$(ls build/card)" = old ] && [ "$(cat build/card/old)" = before ]
+}
+
 # The folder of make lib, moved: a program and its library compile there, through pkg-config where it is installed.
 moved_folder() {
     rm -rf build/moved && cp -r build/lib build/moved || return 1
@@ -106,7 +121,10 @@ prove
 step "make lib" lib
 step "the C program of sealing" c_program tests/c_calls/c/roundtrip.c libicepole_c.a
 step "the C program of bursts" c_program tests/burst_calls/c/record_and_read.c libburst_c.a
+step "the example" example
+step "the example on a full card" full_card
 step "icepole from build/lib" moved_folder tests/c_calls/c/roundtrip.c icepole
+step "burst from build/lib" moved_folder examples/firmware.c burst build/card.burst
 rust_tests
 echo "$passed passed, $failed failed" | tee build/result
 [ "$failed" -eq 0 ]
