@@ -80,6 +80,20 @@ c_program() {
     fi
 }
 
+# The same with gcc's sanitizers, for what the C program itself does. The library is not instrumented: its accesses are valgrind's.
+c_sanitized() {
+    name=$(basename "$1" .c)-sanitized
+    sanitizers="-fsanitize=address,undefined -fno-sanitize-recover=all"
+    echo 'int main(void) { return 0; }' >build/empty.c
+    if ! { gcc $sanitizers build/empty.c -o build/empty && build/empty; } >/dev/null 2>&1; then
+        echo "gcc has no sanitizers here: $name did not run"
+        return 0
+    fi
+    $c $sanitizers -Iinclude "$1" "target/staticlib/$2" -o "build/$name" || return 1
+    shift 2
+    run "build/$name" "$@"
+}
+
 # The example says what examples/firmware.out has.
 example() {
     c_program examples/firmware.c libburst_c.a build/card.burst && diff examples/firmware.out build/run.log
@@ -123,6 +137,9 @@ step "the C program of sealing" c_program tests/c_calls/c/roundtrip.c libicepole
 step "the C program of bursts" c_program tests/burst_calls/c/record_and_read.c libburst_c.a
 step "the example" example
 step "the example on a full card" full_card
+step "the C program of sealing, sanitized" c_sanitized tests/c_calls/c/roundtrip.c libicepole_c.a
+step "the C program of bursts, sanitized" c_sanitized tests/burst_calls/c/record_and_read.c libburst_c.a
+step "the example, sanitized" c_sanitized examples/firmware.c libburst_c.a build/card.burst
 step "icepole from build/lib" moved_folder tests/c_calls/c/roundtrip.c icepole
 step "burst from build/lib" moved_folder examples/firmware.c burst build/card.burst
 rust_tests
