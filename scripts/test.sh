@@ -124,6 +124,13 @@ moved_folder() {
     run build/moved/program "$@"
 }
 
+# Random cases with a new seed each time.
+soak() {
+    make -s -o lib soak COUNT=100000 >build/soak.log 2>&1 || { cat build/soak.log; return 1; }
+    head -n 1 build/soak.log
+    tail -n 1 build/soak.log | grep '^100000 cases, 0 differ$'
+}
+
 lib() {
     make -s lib >build/lib.log 2>&1 || { cat build/lib.log; return 1; }
 }
@@ -143,5 +150,6 @@ step "the example, sanitized" c_sanitized examples/firmware.c libburst_c.a build
 step "icepole from build/lib" moved_folder tests/c_calls/c/roundtrip.c icepole
 step "burst from build/lib" moved_folder examples/firmware.c burst build/card.burst
 rust_tests
+step "soak" soak
 echo "$passed passed, $failed failed" | tee build/result
 [ "$failed" -eq 0 ]
