@@ -66,8 +66,8 @@ run() {
 
 c="gcc -std=c11 -Wall -Wextra -Werror -pedantic -g"
 
-# A C program, its library and its arguments: compiled with the headers as a firmware author would, and run under valgrind. Its buffers have the exact size, so
-# that valgrind sees the library read or write beside them.
+# A C program, its library and its arguments: compiled with the headers as a firmware author would, and run under valgrind. The tests' programs have buffers of
+# the exact size on the heap, so that valgrind sees the library read or write beside them.
 c_program() {
     name=$(basename "$1" .c)
     $c -Iinclude "$1" "target/staticlib/$2" -o "build/$name" || return 1
