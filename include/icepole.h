@@ -1,17 +1,17 @@
 /*
- * ICEPOLE-128, ICEPOLE-128a and ICEPOLE-256a: authenticated encryption of whole messages.
+ * ICEPOLE-128, ICEPOLE-128a and ICEPOLE-256a: authenticated encryption of whole messages, and of messages in strips (128).
  *
  * The functions are written in Rattle and proved to meet their contracts (crates/icepole_c). Link libicepole_c.a, which `make lib`
  * leaves beside this header in build/lib.
  *
- * Slices. Every slice is a pointer and a length in bytes. The pointers are valid for their lengths, and out and info overlap no other
- * slice; the proofs assume it. Slices that are only read may overlap. NULL is not allowed, not even with length 0: an empty slice is
+ * Slices. Every slice is a pointer and a length in bytes. The pointers are valid for their lengths, and out, info and state overlap no
+ * other slice; the proofs assume it. Slices that are only read may overlap. NULL is not allowed, not even with length 0: an empty slice is
  * any other pointer with length 0. All numbers are little-endian.
  *
  * Associated data comes in two parts, ad1 and ad2, and means their joining, ad1 then ad2. Where there is one part, the other is empty.
  *
  * Result. Each function returns a refusal number, 0 when it is done. A number is given where its condition is the first in the order
- * below to hold. A refused call writes nothing.
+ * below to hold. A refused call writes nothing, but for a start, which leaves a finished state.
  *
  * Nonces. A key and a nonce may be used for one sealed message only.
  */
@@ -25,16 +25,18 @@
 extern "C" {
 #endif
 
-/* The refusal numbers. Sealing tests them in the order 1, 2, 3, 4, 5; opening in the order 1, 2, 4, 6, 5, 7. */
+/* The refusal numbers. Sealing tests them in the order 1, 2, 3, 4, 5; opening in the order 1, 2, 4, 6, 5, 7; start in the order 1, 2, 3, 4, 5;
+ * strip in the order 14, 4, 5; end in the order 14, 5. */
 enum icepole_refusal {
     ICEPOLE_DONE = 0,
     ICEPOLE_KEY_LENGTH = 1,       /* the key has another length than the variant's */
     ICEPOLE_NONCE_LENGTH = 2,     /* the nonce has another length than the variant's */
     ICEPOLE_SECRET_LENGTH = 3,    /* the secret number has another length than the variant's */
-    ICEPOLE_DATA_TOO_LONG = 4,    /* associated data (both parts together) or message, also the one that a sealed message implies, is above ICEPOLE_MAX_BYTES */
-    ICEPOLE_OUTPUT_TOO_SHORT = 5, /* out, or in opening info, is too short */
+    ICEPOLE_DATA_TOO_LONG = 4,    /* associated data (both parts together) or message, also the one that a sealed message implies or strips add up to, is above ICEPOLE_MAX_BYTES */
+    ICEPOLE_OUTPUT_TOO_SHORT = 5, /* out, in opening info, or in start state, is too short */
     ICEPOLE_SEALED_TOO_SHORT = 6, /* the sealed message is shorter than the sealed secret number and the tag */
-    ICEPOLE_TAG_DIFFERS = 7       /* the tag differs: not sealed under this key, nonce and associated data */
+    ICEPOLE_TAG_DIFFERS = 7,      /* the tag differs: not sealed under this key, nonce and associated data */
+    ICEPOLE_STRIP_STATE = 14      /* the strip state is finished, its count is above ICEPOLE_MAX_BYTES, or its slice is too short to hold one */
 };
 
 /* Associated data and message are at most so many bytes each. */
@@ -46,6 +48,8 @@ enum icepole_refusal {
 #define ICEPOLE128_SECRET_BYTES 16
 #define ICEPOLE128_OVERHEAD_BYTES 32
 #define ICEPOLE128_INFO_BYTES 24
+#define ICEPOLE128_TAG_BYTES 16
+#define ICEPOLE128_STRIP_STATE_BYTES 169
 
 #define ICEPOLE128A_KEY_BYTES 16
 #define ICEPOLE128A_NONCE_BYTES 12
@@ -93,6 +97,26 @@ uint32_t icepole256a_open(const uint8_t *key, size_t key_len, const uint8_t *non
                           const uint8_t *ad1, size_t ad1_len, const uint8_t *ad2, size_t ad2_len,
                           const uint8_t *sealed, size_t sealed_len, uint8_t *out, size_t out_len,
                           uint8_t *info, size_t info_len);
+
+/*
+ * A message in strips, under ICEPOLE-128: start, then any number of strips, then end. What they write, joined in order, is what
+ * icepole128_seal writes for the strips joined; icepole128_open opens it.
+ *
+ * start writes the sealed secret number, 16 bytes, to the front of out; a strip as many bytes as it has, of any length and also none;
+ * end the 16-byte tag. Later bytes stay.
+ *
+ * state holds what passes from call to call, ICEPOLE128_STRIP_STATE_BYTES bytes: the cipher's state (160), the count of message bytes
+ * (8), and 0, or 1 once it is finished. It is as secret as the key. A start that is refused leaves a finished state, otherwise zero
+ * (nothing where state is too short); refused strips and ends leave state and out as they were. After end the state is finished, and
+ * each further call is refused with 14.
+ */
+uint32_t icepole128_start(const uint8_t *key, size_t key_len, const uint8_t *nonce, size_t nonce_len,
+                          const uint8_t *secret, size_t secret_len, const uint8_t *ad1, size_t ad1_len,
+                          const uint8_t *ad2, size_t ad2_len, uint8_t *out, size_t out_len,
+                          uint8_t *state, size_t state_len);
+uint32_t icepole128_strip(uint8_t *state, size_t state_len, const uint8_t *msg, size_t msg_len,
+                          uint8_t *out, size_t out_len);
+uint32_t icepole128_end(uint8_t *state, size_t state_len, uint8_t *out, size_t out_len);
 
 #ifdef __cplusplus
 }
