@@ -9,7 +9,7 @@
  * other pointer with length 0. Numbers lent by pointer are aligned and not NULL. What a call writes stands at the front of the slice;
  * later bytes stay. All numbers in files, scripts, answers and infos are little-endian.
  *
- * Every call ends on every input. burst_check, burst_fetch and burst_record return a refusal number, 0 when done: the number whose
+ * Every call ends on every input. burst_check, burst_fetch, burst_record and burst_list return a refusal number, 0 when done: the number whose
  * condition is the first in the call's order to hold. A refused call leaves each lent slice with the bytes it had; numbers lent by
  * pointer are written on every call. The mark is 0 except under 7, where it says which tag differs: 0 for the closing seal, else the
  * shot number of the record.
@@ -50,6 +50,8 @@ enum {
     BURST_MIN_FILE_BYTES = 64,
     BURST_CHECK_INFO_BYTES = 30, /* burst number (8), site mark (16), taken (2), kept (2), dropped (2) */
     BURST_FETCH_INFO_BYTES = 22, /* shot number (2), picture length (4), stamp (16) */
+    BURST_LIST_BYTES = 4800,     /* room for every text of burst_list */
+    BURST_MAX_LISTED_BYTES = 65536,
     BURST_ANSWER_BYTES = 8       /* refusal number (4), then shot number or total (4), 0 for begin and where refused */
 };
 
@@ -62,7 +64,7 @@ enum {
  * answers_len / 8 - 1 calls. With answers_len below 8 nothing is done, and the result is 0.
  * The numbers in the answers: begin 1, 3, 11; keep 8, 3, 9, 10, 11; drop 8, 9; close 8, 11; the first that holds, in this order. A
  * refused call leaves the buffer as it was. After a close that is answered 0, the first bytes of the buffer, as many as its total
- * says, are the burst's file; before that the buffer holds no file. */
+ * says, are the burst's file. */
 size_t burst_replay(const uint8_t *key, size_t key_len, uint64_t burst_number,
                     const uint8_t *site_mark, size_t site_mark_len,
                     const uint8_t *script, size_t script_len,
@@ -86,6 +88,13 @@ uint32_t burst_fetch(const uint8_t *key, size_t key_len,
 uint32_t burst_record(const uint8_t *key, size_t key_len,
                       const uint8_t *file, size_t file_len, uint16_t place,
                       uint32_t *mark, uint32_t *offset, uint32_t *size);
+
+/* Writes the listing of a file, as text, to the front of text and its length to *length: burst number, counts, and a line for each kept
+ * picture. It needs no key and tests the front only, so a damaged seal does not matter. A file above 65,536 bytes gives
+ * "front too long", one whose front breaks a rule "front 12". Every line ends with a newline; there is no 0 byte at the end. Refusal 5
+ * where text_len is below BURST_LIST_BYTES; then *length is 0. */
+uint32_t burst_list(const uint8_t *file, size_t file_len,
+                    uint8_t *text, size_t text_len, uint32_t *length);
 
 #ifdef __cplusplus
 }

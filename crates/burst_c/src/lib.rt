@@ -8,6 +8,7 @@ ghost use Prim.Native.Nat.{_≤_};
 ghost use lib.ListN.{length};
 ghost use Rattle.bytes_le.specs.Bytes.{putBytes};
 ghost use Rattle.reader.specs.Reader.{checkMark, recordNumber, recordOffset, recordBytesIn};
+ghost use Rattle.listing.specs.Listing.{listNumber, listAnswer, listOutput};
 ghost use Rattle.replay.specs.Replay.{listOf, Replayed};
 ghost use Rattle.burst_c.specs.Calls.{checkedBytes, fetchedBytes, checkCallNumber, checkCallInfo, fetchCallNumber, fetchCallOutput, fetchCallInfo};
 
@@ -132,4 +133,16 @@ pub extern "C" fn burst_record(
     *offset = e.offset;
     *size = e.length + 32;
     0
+}
+
+#[no_mangle]
+pub extern "C" fn burst_list(file: &[u8], text: &mut [u8], size: &mut u32) -> u32
+    ensures { λ n. ⌜
+        (n ≡ listNumber (now (text .entry))) ×
+        (now (text .exit) ≡ listOutput (now (file .entry)) (now (text .entry))) ×
+        (now (size .exit) ≡ listAnswer (now (file .entry)) (now (text .entry)) .length) ⌝ }
+{
+    let r = listing::list_front(file, text);
+    *size = r.length as u32;
+    r.refusal
 }

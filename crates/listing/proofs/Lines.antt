@@ -1,0 +1,161 @@
+-- The lines of a front, entry by entry, and how long they get.
+-- Assumes nothing.
+use mathlib.Core.Path.{_≡_, refl, sym, ap, subst, _∙_}
+use mathlib.Core.Bool.{Bool, true, false}
+use mathlib.Core.List.{List, [], _∷_, _++_}
+use Prim.Native.Nat.{ℕ, zero, suc, _+_, _-_, _*_, _≤_, _<_}
+use native.Mathlib.Nat.{zero-add}
+use native.Mathlib.Omega.{arith}
+use borrow.Author.Tests.{le-ltb, lt-ltb}
+use lib.Dec.{eqb, ltb}
+use lib.ListN.{length, length-append}
+use Rattle.bytes_le.specs.Bytes.{Bytes, putBytes}
+use Rattle.icepole.specs.Sealing.{pick}
+use Rattle.burst.specs.declared.Entry.{Entry}
+use Rattle.burst.specs.Layout.{edition1}
+use Rattle.reader.specs.declared.Header.{Header}
+use Rattle.reader.specs.Front.{burstNumberIn, droppedIn, entriesAt, entryAt, frontRules, headerIn, indexOffsetIn, keptIn, takenIn}
+use Rattle.reader.proofs.Rules.{front}
+use Rattle.listing.specs.declared.Listed.{Listed}
+use Rattle.listing.specs.Text.{ascii}
+use Rattle.listing.specs.Listing.{field, frontLines, headLines, listAnswer, listNumber, listOutput, listing, shotLine, shotLines}
+use Rattle.listing.proofs.Puts.{Put, field-length, put-then}
+
+-- ---- lengths
+pub head-length : (b t k d : ℕ) → length (headLines b t k d) ≤ 109
+unfolding headLines
+head-length b t k d =
+    let A : Bytes = field (ascii "burst ") b in
+    let B : Bytes = field (ascii "\ntaken ") t in
+    let C : Bytes = field (ascii " kept ") k in
+    let D : Bytes = field (ascii " dropped ") d in
+    let a : length A ≤ 6 + 20 = field-length (ascii "burst ") b in
+    let b′ : length B ≤ 7 + 20 = field-length (ascii "\ntaken ") t in
+    let c : length C ≤ 6 + 20 = field-length (ascii " kept ") k in
+    let d′ : length D ≤ 9 + 20 = field-length (ascii " dropped ") d in
+    let ln = length-append D (ascii "\n") in
+    let lc = length-append C (D ++ ascii "\n") in
+    let lb = length-append B (C ++ (D ++ ascii "\n")) in
+    let la = length-append A (B ++ (C ++ (D ++ ascii "\n"))) in
+    omega (arith, ln, lc, lb, la)
+
+pub shot-length : (s o n : ℕ) → length (shotLine s o n) ≤ 78
+unfolding shotLine
+shot-length s o n =
+    let A : Bytes = field (ascii "shot ") s in
+    let B : Bytes = field (ascii " at ") o in
+    let C : Bytes = field (ascii " length ") n in
+    let a : length A ≤ 5 + 20 = field-length (ascii "shot ") s in
+    let b : length B ≤ 4 + 20 = field-length (ascii " at ") o in
+    let c : length C ≤ 8 + 20 = field-length (ascii " length ") n in
+    let lc = length-append C (ascii "\n") in
+    let lb = length-append B (C ++ ascii "\n") in
+    let la = length-append A (B ++ (C ++ ascii "\n")) in
+    omega (arith, lc, lb, la)
+
+abbrev lineOf : Entry → Bytes
+lineOf e = shotLine (e .shot .0) (e .offset) (e .length)
+
+pub shots-length : (n position : ℕ) (f : Bytes) → length (shotLines (entriesAt n position f)) ≤ 78 * n
+unfolding shotLines entriesAt
+shots-length zero position f = omega arith
+shots-length (suc n) position f =
+    let i = shots-length n (position + 12) f in
+    let e : Entry = entryAt f position in
+    let l = length-append (lineOf e) (shotLines (entriesAt n (position + 12) f)) in
+    let h = shot-length (e .shot .0) (e .offset) (e .length) in
+    omega (arith, l, h, i)
+
+-- ---- one entry more: what is put from here on is what was to be put
+module _ (f : Bytes) (left position : ℕ) where
+  pub no-shots : shotLines (entriesAt 0 position f) ≡ []
+  unfolding shotLines entriesAt
+  no-shots = refl
+
+  more-shots : shotLines (entriesAt (suc left) position f) ≡ lineOf (entryAt f position) ++ shotLines (entriesAt left (position + 12) f)
+  unfolding shotLines entriesAt
+  more-shots = refl
+
+  module _ (e : Entry) (ee : e ≡ entryAt f position) (at i : ℕ) (o o₁ : Bytes) (h : at + 78 * suc left ≤ length o)
+      (ei : i ≡ at + length (lineOf e)) (e₁ : o₁ ≡ putBytes o at (lineOf e)) where
+    both : Put o at (lineOf e ++ shotLines (entriesAt left (position + 12) f)) (putBytes o₁ i (shotLines (entriesAt left (position + 12) f))) (i + length (shotLines (entriesAt left (position + 12) f)))
+    both =
+        let s = shots-length left (position + 12) f in
+        let l = shot-length (e .shot .0) (e .offset) (e .length) in
+        put-then o o₁ _ (lineOf e) (shotLines (entriesAt left (position + 12) f)) at i _ (omega (arith, s, l)) (record { index = ei; bytes = e₁ }) (record { index = refl; bytes = refl })
+
+    here : lineOf e ++ shotLines (entriesAt left (position + 12) f) ≡ shotLines (entriesAt (suc left) position f)
+    here = ap (λ (e : Entry). lineOf e ++ shotLines (entriesAt left (position + 12) f)) ee ∙ sym more-shots
+
+    pub shots-bytes : putBytes o₁ i (shotLines (entriesAt left (position + 12) f)) ≡ putBytes o at (shotLines (entriesAt (suc left) position f))
+    shots-bytes = both .bytes ∙ ap (putBytes o at) here
+
+    pub shots-index : i + length (shotLines (entriesAt left (position + 12) f)) ≡ at + length (shotLines (entriesAt (suc left) position f))
+    shots-index = both .index ∙ ap (λ (v : Bytes). at + length v) here
+
+-- ---- the text, from the tests
+pub long-listing : (f : Bytes) → 65536 < length f → ascii "front too long\n" ≡ listing f
+unfolding listing
+long-listing f h = sym (simp (lt-ltb 65536 (length f) h))
+
+module _ (f : Bytes) (h : length f ≤ 65536) where
+  pub broken-listing : frontRules edition1 f ≡ false → ascii "front 12\n" ≡ listing f
+  unfolding listing
+  broken-listing e = sym (simp (le-ltb 65536 (length f) h, e))
+
+  pub front-listing : frontRules edition1 f ≡ true → frontLines f ≡ listing f
+  unfolding listing
+  front-listing e = sym (simp (le-ltb 65536 (length f) h, e))
+
+-- head and shots touch
+pub front-put : (f : Bytes) (h : Header) → h ≡ headerIn f → (o o₁ o₂ : Bytes) (i r : ℕ) → 4800 ≤ length o → h .kept ≤ 60
+    → i ≡ length (headLines (h .«burst_number») (h .taken) (h .kept) (h .dropped)) → o₁ ≡ putBytes o 0 (headLines (h .«burst_number») (h .taken) (h .kept) (h .dropped))
+    → r ≡ i + length (shotLines (entriesAt (h .kept) (h .index) f)) → o₂ ≡ putBytes o₁ i (shotLines (entriesAt (h .kept) (h .index) f))
+    → (r ≡ length (frontLines f)) × (o₂ ≡ putBytes o 0 (frontLines f))
+unfolding frontLines
+front-put f h eh o o₁ o₂ i r ho hk ei e₁ er e₂ =
+    let A : Bytes = headLines (h .«burst_number») (h .taken) (h .kept) (h .dropped) in
+    let a = head-length (h .«burst_number») (h .taken) (h .kept) (h .dropped) in
+    let s = shots-length (h .kept) (h .index) f in
+    let p = put-then o o₁ o₂ A (shotLines (entriesAt (h .kept) (h .index) f)) 0 i r (omega (arith, a, s)) (record { index = ei ∙ sym (zero-add _); bytes = e₁ }) (record { index = er; bytes = e₂ }) in
+    let e = ap (λ (h : Header). headLines (h .«burst_number») (h .taken) (h .kept) (h .dropped) ++ shotLines (entriesAt (h .kept) (h .index) f)) eh in
+    (p .index ∙ zero-add _ ∙ ap length e, p .bytes ∙ ap (putBytes o 0) e)
+
+-- ---- the call's answer
+pub list-refused : (f o : Bytes) → length o < 4800 → (record { refusal = 5; mark = 0; length = 0 } ≡ listAnswer f o) × (o ≡ listOutput f o)
+unfolding listAnswer listOutput listNumber
+list-refused f o h = let z = lt-ltb (length o) 4800 h in (sym (simp z), sym (simp z))
+
+pub list-done : (f o o′ : Bytes) (n : ℕ) → 4800 ≤ length o → n ≡ length (listing f) → o′ ≡ putBytes o 0 (listing f)
+    → (record { refusal = 0; mark = 0; length = n } ≡ listAnswer f o) × (o′ ≡ listOutput f o)
+unfolding listAnswer listOutput listNumber
+list-done f o o′ n h en eo =
+    let z = le-ltb (length o) 4800 h in
+    (ap (λ (n : ℕ). record { refusal = 0; mark = 0; length = n }) en ∙ sym (simp z), eo ∙ sym (simp z))
+
+-- ---- every text has room
+pub listing-length : (f : Bytes) → length (listing f) ≤ 4800
+unfolding listing frontLines
+listing-length f = by (ltb 65536 (length f)) (frontRules edition1 f) refl
+  where
+    by : (a b : Bool) → frontRules edition1 f ≡ b → length (pick a (ascii "front too long\n") (pick b (frontLines f) (ascii "front 12\n"))) ≤ 4800
+    by true b e = omega arith
+    by false false e = omega arith
+    by false true e =
+        let w = front f e in
+        let a = head-length (burstNumberIn f) (takenIn f) (keptIn f) (droppedIn f) in
+        let s = shots-length (keptIn f) (indexOffsetIn f) f in
+        let l = length-append (headLines (burstNumberIn f) (takenIn f) (keptIn f) (droppedIn f)) (shotLines (entriesAt (keptIn f) (indexOffsetIn f) f)) in
+        omega (arith, a, s, l, w .most, w .counts)
+
+pub told-length : (f o : Bytes) (r : Listed) → r ≡ listAnswer f o → r .length ≤ 4800
+unfolding listAnswer
+told-length f o r e = subst (λ (n : ℕ). n ≤ 4800) (sym (ap (λ (r : Listed). r .length) e)) (by (eqb (listNumber o) 0))
+  where
+    by : (t : Bool) → pick t (length (listing f)) 0 ≤ 4800
+    by true = listing-length f
+    by false = omega arith
+
+pub told-number : (f o : Bytes) (r : Listed) → r ≡ listAnswer f o → r .refusal ≡ listNumber o
+unfolding listAnswer
+told-number f o r e = ap (λ (r : Listed). r .refusal) e

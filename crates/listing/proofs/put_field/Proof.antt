@@ -1,0 +1,33 @@
+-- `listing::put_field` meets its contract: the digits touch the word.
+-- Assumes nothing.
+use mathlib.Core.Path.{_≡_}
+use native.Mathlib.Omega.{arith}
+use borrow.Author.Needs.{needs}
+use lib.ListN.{length}
+use Rattle.listing.proofs.Puts.{field-put}
+use Rattle.listing.proofs.put_field.Statement.{statement}
+use Rattle.listing.proofs.put_field.Tie as tie
+
+part-put-bytes-end : tie.Need-part-put-bytes-end
+part-put-bytes-end c =
+    let l : length (c .before .before .before .digits-of .result .bytes) ≡ 20 = c .before .before .before .digits-of .ensures .2 in omega (arith, l)
+
+returns : tie.Need-returns
+returns c =
+    let a = c .before .before .before .before .before .before .before .before .before .before .before .before .before .before .args in
+    let l : length (c .before .before .before .before .before .before .before .digits-of .result .bytes) ≡ 20 = c .before .before .before .before .before .before .before .digits-of .ensures .2 in
+    field-put (a .out .now) _ _ (a .word .now) (c .before .before .before .before .before .before .before .digits-of .result .bytes) (a .at) _ _ (a .n) _ (c .before .before .before .before .before .before .before .before .before .before .before .before .before .before .pre) l (c .before .before .before .before .before .before .before .digits-of .ensures .1)
+    (c .before .before .before .before .before .before .before .digits-of .ensures .0) (c .before .before .before .before .before .before .before .before .before .before .put-bytes .ensures .0) (c .before .before .before .before .before .before .before .before .before .before .put-bytes .ensures .1) (c .before .before .put-bytes2 .ensures .0) (c .before .before .put-bytes2 .ensures .1)
+
+pub put-field-spec : {M : Type 1} → statement M
+put-field-spec =
+    tie.close
+    (tie.spec
+    (λ c κs. search needs)
+    (λ c κs. search needs)
+    (λ c. search needs)
+    (λ c. search needs)
+    part-put-bytes-end
+    (λ c κs. search needs)
+    (λ c. search needs)
+    returns)

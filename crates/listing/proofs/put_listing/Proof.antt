@@ -1,0 +1,72 @@
+-- `listing::put_listing` meets its contract: the text that each test leaves.
+-- Assumes nothing.
+use mathlib.Core.Path.{_≡_, refl, sym, ap, _∙_}
+use native.Mathlib.Nat.{zero-add}
+use native.Mathlib.Omega.{arith}
+use borrow.Author.Needs.{needs}
+use borrow.Author.Tests.{not-true, not-false}
+use lib.ListN.{length}
+use Rattle.bytes_le.specs.Bytes.{Bytes, putBytes}
+use Rattle.reader.proofs.Rules.{front, reads}
+use Rattle.listing.proofs.Lines.{broken-listing, front-listing, front-put, head-length, long-listing}
+use Rattle.listing.proofs.put_listing.Statement.{statement}
+use Rattle.listing.proofs.put_listing.Tie as tie
+
+returns : tie.Need-returns
+returns c =
+    let a = c .before .before .before .before .before .before .before .before .args in
+    let e = long-listing (a .f .now) (c .before .before .before .before .before .if1 .taken) in
+    (c .before .before .put-bytes .ensures .0 ∙ zero-add _ ∙ ap length e, c .before .before .put-bytes .ensures .1 ∙ ap (putBytes (a .out .now) 0) e)
+
+returns-2 : tie.Need-returns-2
+returns-2 c =
+    let a = c .before .before .before .before .before .before .before .before .before .before .args in
+    let e = broken-listing (a .f .now) (c .before .before .before .before .before .before .before .if1 .left) (sym (c .before .before .before .before .before .before .front-ok .ensures) ∙ not-true _ (c .before .before .before .before .before .if2 .taken)) in
+    (c .before .before .put-bytes2 .ensures .0 ∙ zero-add _ ∙ ap length e, c .before .before .put-bytes2 .ensures .1 ∙ ap (putBytes (a .out .now) 0) e)
+
+header-in-requires : tie.Need-header-in-requires
+header-in-requires c κs =
+    let w = front (c .before .before .before .before .before .args .f .now) (sym (c .before .front-ok .ensures) ∙ not-false _ (c .if2 .left)) in omega (arith, w .least)
+
+put-shots-requires : tie.Need-put-shots-requires
+put-shots-requires c κs =
+    let a = c .before .before .before .before .before .before .before .before .before .before .before .before .before .args in
+    let h = c .before .before .before .before .before .before .before .header-in .result in
+    let w = reads (a .f .now) h (c .before .before .before .before .before .before .before .header-in .ensures) (front (a .f .now) (sym (c .before .before .before .before .before .before .before .before .before .front-ok .ensures) ∙ not-false _ (c .before .before .before .before .before .before .before .before .if2 .left))) in
+    let l = head-length (h .«burst_number») (h .taken) (h .kept) (h .dropped) in
+    (omega (arith, w .closing, w .total, w .size), omega (arith, w .most, w .counts), omega (arith, w .most, w .counts, l, c .before .before .before .put-head .ensures .0, c .before .before .before .put-head .kept .0, c .before .before .before .before .before .before .before .before .before .before .before .before .before .pre))
+
+returns-3 : tie.Need-returns-3
+returns-3 c =
+    let a = c .before .before .before .before .before .before .before .before .before .before .before .before .before .before .before .before .args in
+    let h = c .before .before .before .before .before .before .before .before .before .before .header-in .result in
+    let t = sym (c .before .before .before .before .before .before .before .before .before .before .before .before .front-ok .ensures) ∙ not-false _ (c .before .before .before .before .before .before .before .before .before .before .before .if2 .left) in
+    let w = reads (a .f .now) h (c .before .before .before .before .before .before .before .before .before .before .header-in .ensures) (front (a .f .now) t) in
+    let e = front-listing (a .f .now) (c .before .before .before .before .before .before .before .before .before .before .before .before .before .if1 .left) t in
+    let p = front-put (a .f .now) h (c .before .before .before .before .before .before .before .before .before .before .header-in .ensures) (a .out .now) _ _ _ _ (c .before .before .before .before .before .before .before .before .before .before .before .before .before .before .before .before .pre) (omega (arith, w .most, w .counts)) (c .before .before .before .before .before .before .put-head .ensures .0) (c .before .before .before .before .before .before .put-head .ensures .1)
+    (c .before .before .put-shots .ensures .0) (c .before .before .put-shots .ensures .1) in
+    (p .0 ∙ ap length e, p .1 ∙ ap (putBytes (a .out .now) 0) e)
+
+pub put-listing-spec : {M : Type 1} → statement M
+put-listing-spec =
+    tie.close
+    (tie.spec
+    (λ c. search needs)
+    (λ c κs. search needs)
+    (λ c. search needs)
+    returns
+    (λ c κs. search needs)
+    (λ c. search needs)
+    (λ c κs. search needs)
+    (λ c. search needs)
+    returns-2
+    header-in-requires
+    (λ c. search needs)
+    (λ c. search needs)
+    (λ c. search needs)
+    (λ c κs. search needs)
+    (λ c. search needs)
+    (λ c. search needs)
+    put-shots-requires
+    (λ c. search needs)
+    returns-3)

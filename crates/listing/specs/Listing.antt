@@ -1,0 +1,62 @@
+-- What the lister prints for a file, without a key (01, "Afterwards": "The lister"): the front only is tested.
+-- Assumes nothing.
+use mathlib.Core.List.{List, [], _∷_, _++_}
+use Prim.Native.Nat.{ℕ}
+use lib.Dec.{eqb, ltb}
+use lib.ListN.{length}
+use Rattle.bytes_le.specs.Bytes.{Bytes, putBytes}
+use Rattle.icepole.specs.Sealing.{pick}
+use Rattle.icepole.specs.Answers.{_when_, refusal, unless}
+use Rattle.burst.specs.declared.Entry.{Entry}
+use Rattle.burst.specs.Layout.{edition1}
+use Rattle.reader.specs.Front.{takenIn, keptIn, droppedIn, burstNumberIn, indexOffsetIn, entriesAt, frontRules}
+use Rattle.listing.specs.declared.Listed.{Listed}
+use Rattle.listing.specs.Text.{ascii, decimal}
+
+-- the longest file that is listed
+abbrev pub maxListed : ℕ
+maxListed = 65536
+
+-- ---- the lines
+-- a word and a number
+abbrev pub field : Bytes → ℕ → Bytes
+field word n = word ++ decimal n
+
+-- burst and counts
+unfoldable pub headLines : (burstNumber taken kept dropped : ℕ) → Bytes
+headLines burstNumber taken kept dropped =
+    field (ascii "burst ") burstNumber
+    ++ (field (ascii "\ntaken ") taken ++ (field (ascii " kept ") kept ++ (field (ascii " dropped ") dropped ++ ascii "\n")))
+
+-- a kept picture: shot number, record offset, picture length
+unfoldable pub shotLine : (shot offset length : ℕ) → Bytes
+shotLine shot offset l =
+    field (ascii "shot ") shot ++ (field (ascii " at ") offset ++ (field (ascii " length ") l ++ ascii "\n"))
+
+unfoldable pub shotLines : List Entry → Bytes
+shotLines [] = []
+shotLines (e ∷ es) = shotLine (e .shot .0) (e .offset) (e .length) ++ shotLines es
+
+unfoldable pub frontLines : Bytes → Bytes
+frontLines f =
+    headLines (burstNumberIn f) (takenIn f) (keptIn f) (droppedIn f) ++ shotLines (entriesAt (keptIn f) (indexOffsetIn f) f)
+
+-- ---- what is printed
+unfoldable pub listing : Bytes → Bytes
+listing f =
+    pick (ltb maxListed (length f)) (ascii "front too long\n")
+    (pick (frontRules edition1 f) (frontLines f) (ascii "front 12\n"))
+
+-- ---- the call: 5 where the output has less room than every text needs
+abbrev pub textRoom : ℕ
+textRoom = 4800
+
+unfoldable pub listNumber : Bytes → ℕ
+listNumber out = refusal ((5 when ltb (length out) textRoom) ∷ [])
+
+-- the length of the text
+unfoldable pub listAnswer : Bytes → Bytes → Listed
+listAnswer f out = record { refusal = listNumber out; mark = 0; length = pick (eqb (listNumber out) 0) (length (listing f)) 0 }
+
+unfoldable pub listOutput : Bytes → Bytes → Bytes
+listOutput f out = unless (listNumber out) out (putBytes out 0 (listing f))

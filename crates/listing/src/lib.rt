@@ -1,0 +1,148 @@
+// The text that the lister prints for a file (01, "Afterwards"): no key, front rules only.
+use icepole::OUTPUT_TOO_SHORT;
+ghost use mathlib.Core.Path.{_≡_};
+ghost use mathlib.Core.List.{_++_};
+ghost use Prim.Native.Nat.{_+_, _*_, _≤_};
+ghost use lib.ListN.{length, drop};
+ghost use Rattle.bytes_le.specs.Bytes.{putBytes};
+ghost use Rattle.reader.specs.Front.{entriesAt};
+ghost use Rattle.listing.specs.Text.{decimal};
+ghost use Rattle.listing.specs.Listing.{field, headLines, shotLine, shotLines, listing, listAnswer, listOutput};
+
+// The longest file that is listed.
+pub const MAX_LISTED: usize = 65536;
+
+// Every text has room in so many bytes.
+pub const TEXT_ROOM: usize = 4800;
+
+// Digits of the largest number.
+const MAX_DIGITS: usize = 20;
+
+// What a listing answers: a refusal number with its mark, or the text's length.
+pub struct Listed {
+    pub refusal: u32,
+    pub mark: u32,
+    pub length: usize,
+}
+
+// Decimal digits: those from `start` on.
+struct Digits {
+    bytes: [u8; 20],
+    start: usize,
+}
+
+// The digits of a number, from the last to the first.
+fn digits_of(n: u64) -> Digits
+    ensures { λ r. ⌜ (drop (r .start) (r .bytes) ≡ decimal n) × (r .start ≤ 20) × (length (r .bytes) ≡ 20) ⌝ }
+{
+    let mut bytes = [0u8; 20];
+    let mut i = MAX_DIGITS;
+    let mut rest = n;
+    while 0 < i {
+        i = i - 1;
+        if rest < 10 {
+            bytes[i] = 48 + rest as u8;
+            return Digits { bytes, start: i };
+        }
+        bytes[i] = 48 + (rest % 10) as u8;
+        rest = rest / 10;
+    }
+    Digits { bytes, start: 0 }
+}
+
+// Puts a word and a number into out from index at on; returns the index behind them.
+fn put_field(out: &mut [u8], at: usize, word: &[u8], n: u64) -> usize
+    requires { ⌜ at + (length (now word) + 20) ≤ length (now out) ⌝ }
+    ensures { λ r. ⌜ (r ≡ at + length (field (now (word .entry)) n)) × (now (out .exit) ≡ putBytes (now (out .entry)) at (field (now (word .entry)) n)) ⌝ }
+{
+    let i = bytes_le::put_bytes(out, at, word);
+    let d = digits_of(n);
+    let bytes = d.bytes;
+    let start = d.start;
+    bytes_le::put_bytes(out, i, &bytes[start..20])
+}
+
+// The lines of burst and counts, at the front of out.
+fn put_head(out: &mut [u8], burst_number: u64, taken: u64, kept: u64, dropped: u64) -> usize
+    requires { ⌜ 109 ≤ length (now out) ⌝ }
+    ensures { λ r. ⌜ (r ≡ length (headLines «burst_number» taken kept dropped)) × (now (out .exit) ≡ putBytes (now (out .entry)) 0 (headLines «burst_number» taken kept dropped)) ⌝ }
+{
+    let i = put_field(out, 0, b"burst ", burst_number);
+    let j = put_field(out, i, b"\ntaken ", taken);
+    let k = put_field(out, j, b" kept ", kept);
+    let l = put_field(out, k, b" dropped ", dropped);
+    bytes_le::put_bytes(out, l, b"\n")
+}
+
+// The line of a kept picture.
+fn put_shot(out: &mut [u8], at: usize, shot: u64, offset: u64, size: u64) -> usize
+    requires { ⌜ at + 78 ≤ length (now out) ⌝ }
+    ensures { λ r. ⌜ (r ≡ at + length (shotLine shot offset size)) × (now (out .exit) ≡ putBytes (now (out .entry)) at (shotLine shot offset size)) ⌝ }
+{
+    let i = put_field(out, at, b"shot ", shot);
+    let j = put_field(out, i, b" at ", offset);
+    let k = put_field(out, j, b" length ", size);
+    bytes_le::put_bytes(out, k, b"\n")
+}
+
+// The lines of the entries from a position of the file on.
+fn put_shots(f: &[u8], count: usize, start: usize, out: &mut [u8], from: usize) -> usize
+    requires { ⌜ (start + 12 * count ≤ length (now f)) × (count ≤ 60) × (from + 78 * count ≤ length (now out)) ⌝ }
+    ensures { λ r. ⌜ (r ≡ from + length (shotLines (entriesAt count start (now (f .entry)))))
+        × (now (out .exit) ≡ putBytes (now (out .entry)) from (shotLines (entriesAt count start (now (f .entry))))) ⌝ }
+{
+    let mut left = count;
+    let mut position = start;
+    let mut at = from;
+    while 0 < left {
+        let e = reader::entry_at(f, position);
+        let next = put_shot(out, at, e.shot.0 as u64, e.offset as u64, e.length as u64);
+        at = next;
+        position = position + 12;
+        left = left - 1;
+    }
+    at
+}
+
+// Puts the text for a file at the front of out; returns its length.
+fn put_listing(f: &[u8], out: &mut [u8]) -> usize
+    requires { ⌜ 4800 ≤ length (now out) ⌝ }
+    ensures { λ r. ⌜ (r ≡ length (listing (now (f .entry)))) × (now (out .exit) ≡ putBytes (now (out .entry)) 0 (listing (now (f .entry)))) ⌝ }
+{
+    if f.len() > MAX_LISTED {
+        return bytes_le::put_bytes(out, 0, b"front too long\n");
+    }
+    if !reader::front_ok(f) {
+        return bytes_le::put_bytes(out, 0, b"front 12\n");
+    }
+    let h = reader::header_in(f);
+    let kept = h.kept;
+    let index = h.index;
+    let from = put_head(
+        out,
+        h.burst_number,
+        h.taken as u64,
+        kept as u64,
+        h.dropped as u64,
+    );
+    put_shots(f, kept as usize, index as usize, out, from)
+}
+
+// The listing of a file.
+pub fn list_front(f: &[u8], out: &mut [u8]) -> Listed
+    ensures { λ r. ⌜ (r ≡ listAnswer (now (f .entry)) (now (out .entry))) × (now (out .exit) ≡ listOutput (now (f .entry)) (now (out .entry))) ⌝ }
+{
+    if out.len() < TEXT_ROOM {
+        return Listed {
+            refusal: OUTPUT_TOO_SHORT,
+            mark: 0,
+            length: 0,
+        };
+    }
+    let length = put_listing(f, out);
+    Listed {
+        refusal: 0,
+        mark: 0,
+        length,
+    }
+}
