@@ -111,7 +111,7 @@ fn one_byte_less_or_more_is_refused(variant: Variant) {
             let longer = [&[byte], &sealed[..]].concat();
             case.check_refused(&longer, 7, "a byte before it");
 
-            // An output that just held the message is now too short.
+            // An output of the message's length is now too short.
             let (mut out, mut info) = (Lent::new(msg), Lent::new(variant.info_bytes()));
             assert_eq!(case.open(&longer, out.slice(), info.slice()), 5);
             out.check_untouched(&|| case.describe());

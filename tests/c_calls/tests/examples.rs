@@ -1,4 +1,4 @@
-//! The examples of the scope paper, numbers 1 to 7, and what stands just
+//! The examples of the scope paper, numbers 1 to 7, and what stands directly
 //! beside each of them.
 
 use c_calls::case::Case;

@@ -16,7 +16,7 @@ fn good_cases(variant: Variant) {
     }
 }
 
-/// Just the expected numbers came, each at least once.
+/// The expected numbers came, each at least once, and no others.
 fn check_numbers_seen(seen: &[usize; 8], expected: &[usize]) {
     for number in 0..8 {
         let came = seen[number] > 0;

@@ -8,7 +8,7 @@ use reference::burst::reader::{fetch, record};
 use reference::burst::{Answer, Recorder, Refusal};
 use reference::sealing::{bits, Variant};
 
-/// Plain burst and recorder make the same file on a buffer of just its
+/// Plain burst and recorder make the same file on a buffer of exactly its
 /// length, the reader gives it back, and one byte less is too short.
 fn made(burst_number: u64, lengths: &[usize], total: usize) -> Outcome {
     let calls = list_of(burst_number, lengths);

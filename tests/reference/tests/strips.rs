@@ -42,7 +42,7 @@ fn whole(i: &Input) -> Vec<u8> {
 }
 
 /// The message in strips that end at each of `cuts`, and one more to its end.
-/// Every output is just long enough.
+/// No output is longer than what is written to it.
 fn in_strips(i: &Input, cuts: &[usize]) -> Vec<u8> {
     let (ad1, ad2) = i.ad.split_at(i.ad.len() / 3);
     let (mut state, sealed) = start(&i.key, &i.nonce, &i.secret, ad1, ad2, 16);
