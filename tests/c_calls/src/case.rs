@@ -1,6 +1,7 @@
 //! One input of sealing, and the checks that most tests make with it.
 
 use crate::lent::Lent;
+use crate::strips::Start;
 use reference::random::SplitMix64;
 use reference::sealing::Variant;
 
@@ -95,6 +96,17 @@ impl Case {
             &self.msg,
             out,
         )
+    }
+
+    /// What a start of strips takes of it.
+    pub fn start(&self) -> Start<'_> {
+        Start {
+            key: &self.key,
+            nonce: &self.nonce,
+            secret: &self.secret,
+            ad1: &self.ad1,
+            ad2: &self.ad2,
+        }
     }
 
     /// The C opening, under this case's key, nonce and associated data.

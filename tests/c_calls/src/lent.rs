@@ -22,6 +22,14 @@ impl Lent {
         }
     }
 
+    /// The lent part holds these bytes.
+    pub fn holding(bytes: &[u8]) -> Self {
+        let mut lent = Lent::new(bytes.len());
+        lent.slice().copy_from_slice(bytes);
+        lent.before.clone_from(&lent.now);
+        lent
+    }
+
     /// The part that is lent.
     pub fn slice(&mut self) -> &mut [u8] {
         &mut self.now[GUARD..GUARD + self.length]

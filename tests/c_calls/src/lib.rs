@@ -2,7 +2,12 @@
 
 pub mod case;
 pub mod lent;
+pub mod order;
 pub mod random;
+pub mod random_strips;
+pub mod strip_list;
+pub mod strip_pair;
+pub mod strips;
 
 use reference::sealing::Variant;
 

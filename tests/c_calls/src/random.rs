@@ -10,7 +10,7 @@ use reference::sealing::Variant;
 const EDGES: [usize; 11] = [0, 1, 119, 120, 121, 127, 128, 129, 255, 256, 257];
 
 /// One in four an edge, one in 32 up to 5,000 bytes, else up to 300.
-fn length(generator: &mut SplitMix64) -> usize {
+pub(crate) fn length(generator: &mut SplitMix64) -> usize {
     match generator.below(32) {
         0 => generator.below(5_001),
         1..9 => EDGES[generator.below(EDGES.len())],
@@ -19,7 +19,7 @@ fn length(generator: &mut SplitMix64) -> usize {
 }
 
 /// A case whose lengths are right; the associated data is cut anywhere.
-fn case_of(generator: &mut SplitMix64, variant: Variant) -> Case {
+pub(crate) fn case_of(generator: &mut SplitMix64, variant: Variant) -> Case {
     let ad = length(generator);
     let first = generator.below(ad + 1);
     let msg = length(generator);
@@ -27,7 +27,7 @@ fn case_of(generator: &mut SplitMix64, variant: Variant) -> Case {
 }
 
 /// Bytes by which a buffer is longer than needed, none in one of four cases.
-fn spare(generator: &mut SplitMix64) -> usize {
+pub(crate) fn spare(generator: &mut SplitMix64) -> usize {
     if generator.below(4) == 0 {
         0
     } else {
@@ -36,7 +36,7 @@ fn spare(generator: &mut SplitMix64) -> usize {
 }
 
 /// One time in ten, another length: some bytes fewer or some zeros more.
-fn spoil_length(generator: &mut SplitMix64, bytes: &mut Vec<u8>) {
+pub(crate) fn spoil_length(generator: &mut SplitMix64, bytes: &mut Vec<u8>) {
     if generator.below(10) == 0 {
         let length = match generator.below(3) {
             0 => bytes.len().saturating_sub(1),
@@ -48,7 +48,7 @@ fn spoil_length(generator: &mut SplitMix64, bytes: &mut Vec<u8>) {
 }
 
 /// One time in six a length up to what is needed, else longer.
-fn buffer_length(generator: &mut SplitMix64, needed: usize) -> usize {
+pub(crate) fn buffer_length(generator: &mut SplitMix64, needed: usize) -> usize {
     if generator.below(6) == 0 {
         generator.below(needed + 1)
     } else {

@@ -2,21 +2,12 @@
 //! first in the scope paper's order, and a refused call writes nothing.
 
 use std::collections::HashSet;
-use std::sync::LazyLock;
 
 use c_calls::case::info_written;
 use c_calls::for_each_variant;
 use c_calls::lent::Lent;
+use c_calls::order::{associated_data, choices, first_to_hold, lengths, BYTES, OVER, ZEROS};
 use reference::sealing::{words, Variant, MAXIMUM};
-
-/// One byte above the maximum.
-const OVER: usize = MAXIMUM + 1;
-
-/// Zero bytes, lent as data above its maximum.
-static ZEROS: LazyLock<Vec<u8>> = LazyLock::new(|| vec![0; OVER]);
-
-/// Short bytes, lent as keys, nonces, secret numbers and short data.
-static BYTES: LazyLock<Vec<u8>> = LazyLock::new(|| (0..60).map(|n| 3 * n + 1).collect());
 
 /// A message, short or above the maximum.
 fn message(over: bool) -> &'static [u8] {
@@ -27,51 +18,9 @@ fn message(over: bool) -> &'static [u8] {
     }
 }
 
-/// The two parts of associated data: first a short one, then the ways in
-/// which both together are above the maximum.
-fn associated_data() -> Vec<(&'static [u8], &'static [u8])> {
-    vec![
-        BYTES[20..27].split_at(3),
-        ZEROS.split_at(MAXIMUM / 2),
-        ZEROS.split_at(OVER),
-        ZEROS.split_at(0),
-        ZEROS.split_at(MAXIMUM),
-        ZEROS.split_at(1),
-    ]
-}
-
-/// The right length, and after it wrong ones.
-fn lengths(right: usize) -> Vec<usize> {
-    let mut lengths = vec![right];
-    let beside = [right.saturating_sub(1), right + 1];
-    for length in beside.into_iter().chain([0, 1, 12, 16, 32, 48]) {
-        if !lengths.contains(&length) {
-            lengths.push(length);
-        }
-    }
-    lengths
-}
-
-/// Every choice of one number below each limit.
-fn choices<const N: usize>(limits: [usize; N]) -> impl Iterator<Item = [usize; N]> {
-    (0..limits.iter().product()).map(move |mut number| {
-        limits.map(|limit| {
-            let digit = number % limit;
-            number /= limit;
-            digit
-        })
-    })
-}
-
-/// The first number in the order whose condition holds, or 0.
-fn first_to_hold(order: &[(u32, bool)]) -> u32 {
-    let first = order.iter().find(|(_, holds)| *holds);
-    first.map_or(0, |(number, _)| *number)
-}
-
 /// An output longer than this is looked at whole after the call, which takes
-/// time. It is then just long enough, way 0, and the other conditions hold in
-/// one way only, way 1.
+/// time. It is then as long as needed and no longer, way 0, and the other
+/// conditions hold in one way only, way 1.
 const LARGE: usize = 64;
 
 fn is_left_out(out_len: usize, out_way: usize, other_ways: &[usize]) -> bool {
@@ -272,8 +221,8 @@ fn open_in_the_order_1_2_4_6_5_7(variant: Variant) {
     assert_eq!(subsets.len(), (1 << 7) + (1 << 4));
 }
 
-/// Data of just the maximum is not refused with 4, so that the next number in
-/// the order shows, without long work.
+/// Data of the maximum itself is not refused with 4, so that the next number
+/// in the order shows, without long work.
 fn the_maximum_itself_is_not_4(variant: Variant) {
     let sizes = variant.sizes();
     let key = &BYTES[..sizes.key];

@@ -8,7 +8,7 @@ use crate::permutation::{words, State, STARTING_WORDS};
 const STATE_BYTES: usize = 160;
 
 /// The bytes of the state: words in the order w = x + 4y, low byte first.
-fn state_bytes(state: &State) -> [u8; STATE_BYTES] {
+pub fn state_bytes(state: &State) -> [u8; STATE_BYTES] {
     let mut bytes = [0; STATE_BYTES];
     for (w, eight) in bytes.chunks_exact_mut(8).enumerate() {
         eight.copy_from_slice(&state[w % 4][w / 4].to_le_bytes());
