@@ -9,6 +9,7 @@ use burst_calls::random_list::{check_recording, random_recording, recording_of_a
 use burst_calls::random_read::read_call;
 use burst_calls::recording::Recording;
 use c_calls::random::{good_case, open_call, seal_call};
+use c_calls::random_strips::{calls_on_state, random_list, random_state};
 use reference::burst::Call;
 use reference::random::SplitMix64;
 use reference::sealing::Variant;
@@ -53,13 +54,26 @@ fn try_recording(recording: &Recording, what: &dyn Fn() -> String, tally: &mut T
     }
 }
 
+/// A list of strip calls, or calls on a state that anybody may make.
+fn try_strips(generator: &mut SplitMix64, what: &dyn Fn() -> String, tally: &mut Tally) {
+    let told = if generator.below(3) > 0 {
+        random_list(generator).check(what)
+    } else {
+        let state = random_state(generator);
+        calls_on_state(generator, &state, what)
+    };
+    for (call, number) in told {
+        tally.add(call, number);
+    }
+}
+
 /// The case of a seed. It panics where a proved call and the reference differ.
 pub fn try_case(seed: u64, tally: &mut Tally) {
     let mut generator = SplitMix64::new(seed);
     let generator = &mut generator;
     let variant = Variant::ALL[generator.below(3)];
     let what = || format!("seed {seed}");
-    let read = match generator.below(20) {
+    let read = match generator.below(24) {
         0..4 => {
             good_case(generator, variant);
             tally.add("seal", 0);
@@ -69,7 +83,8 @@ pub fn try_case(seed: u64, tally: &mut Tally) {
         8..13 => return tally.add("open", open_call(generator, variant)),
         13..15 => return try_recording(&random_recording(generator), &what, tally),
         15 => return try_recording(&recording_of_any_bytes(generator), &what, tally),
-        16..19 => read_call(generator, &what),
+        16..20 => return try_strips(generator, &what, tally),
+        20..23 => read_call(generator, &what),
         _ => front_call(generator, &what),
     };
     for (call, number) in ["check", "fetch", "record"].into_iter().zip(read) {
