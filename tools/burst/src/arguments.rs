@@ -1,0 +1,345 @@
+//! The command line.
+
+use crate::help;
+use crate::messages::Failure;
+use crate::secrets::parse_mark;
+use std::ffi::{OsStr, OsString};
+use std::path::PathBuf;
+
+/// What the command line asks for.
+pub enum Command {
+    /// Help or version.
+    Print(String),
+    Record(Record),
+    List {
+        file: PathBuf,
+    },
+    Check {
+        key: PathBuf,
+        file: PathBuf,
+    },
+    Fetch(Fetch),
+    Explain {
+        file: PathBuf,
+    },
+}
+
+pub struct Record {
+    pub key: PathBuf,
+    pub burst_number: u64,
+    pub site_mark: Vec<u8>,
+    pub out: PathBuf,
+    pub force: bool,
+    pub shots: Vec<Shot>,
+}
+
+/// A shot, in the order of firing.
+pub enum Shot {
+    Keep { stamp: Vec<u8>, picture: PathBuf },
+    Drop,
+}
+
+pub struct Fetch {
+    pub key: PathBuf,
+    pub file: PathBuf,
+    pub force: bool,
+    pub pictures: Wanted,
+}
+
+pub enum Wanted {
+    One { place: PlaceTyped, out: PathBuf },
+    All { folder: PathBuf },
+}
+
+/// A place as it was typed; it has a number if that fits 16 bits.
+pub struct PlaceTyped {
+    pub typed: String,
+    pub number: Option<u16>,
+}
+
+/// An option and how its values are called.
+type Choice = (&'static str, &'static [&'static str]);
+
+const KEY: Choice = ("--key", &["FILE"]);
+const FORCE: Choice = ("--force", &[]);
+const OUT: Choice = ("--out", &["FILE"]);
+
+/// A command: its name, its help, its options, and how its words are read.
+struct Reader {
+    name: &'static str,
+    help: &'static str,
+    options: &'static [Choice],
+    read: fn(Given) -> Result<Command, Failure>,
+}
+
+const READERS: [Reader; 5] = [
+    Reader {
+        name: "record",
+        help: help::RECORD,
+        options: &[
+            KEY,
+            ("--number", &["N"]),
+            ("--site-mark", &["MARK"]),
+            OUT,
+            FORCE,
+            ("--keep", &["STAMP", "PICTURE"]),
+            ("--drop", &[]),
+        ],
+        read: read_record,
+    },
+    Reader {
+        name: "list",
+        help: help::LIST,
+        options: &[],
+        read: |given| {
+            Ok(Command::List {
+                file: given.file()?,
+            })
+        },
+    },
+    Reader {
+        name: "check",
+        help: help::CHECK,
+        options: &[KEY],
+        read: |given| {
+            let (key, file) = (given.path("--key")?, given.file()?);
+            Ok(Command::Check { key, file })
+        },
+    },
+    Reader {
+        name: "fetch",
+        help: help::FETCH,
+        options: &[
+            KEY,
+            ("--place", &["N"]),
+            OUT,
+            ("--all", &["DIRECTORY"]),
+            FORCE,
+        ],
+        read: read_fetch,
+    },
+    Reader {
+        name: "explain",
+        help: help::EXPLAIN,
+        options: &[],
+        read: |given| {
+            Ok(Command::Explain {
+                file: given.file()?,
+            })
+        },
+    },
+];
+
+/// The command that the words after the program's name ask for.
+pub fn parse(words: Vec<OsString>) -> Result<Command, Failure> {
+    let mut words = words.into_iter();
+    let Some(first) = words.next() else {
+        return Err(usage("", "no command is given".into()));
+    };
+    if first == "--help" || first == "-h" {
+        return Ok(Command::Print(help::ALL.into()));
+    }
+    if first == "--version" || first == "-V" {
+        let version = env!("CARGO_PKG_VERSION");
+        return Ok(Command::Print(format!("burst {version}\n")));
+    }
+    let Some(reader) = READERS.iter().find(|reader| first == reader.name) else {
+        return Err(usage("", format!("there is no command `{}`", show(&first))));
+    };
+    match Given::split(reader, words)? {
+        Some(given) => (reader.read)(given),
+        None => Ok(Command::Print(reader.help.into())),
+    }
+}
+
+fn usage(command: &'static str, problem: String) -> Failure {
+    Failure::Usage { command, problem }
+}
+
+fn show(word: &OsStr) -> String {
+    word.to_string_lossy().into_owned()
+}
+
+/// The words of a command, split into options with their values, in order, and
+/// the other words.
+struct Given {
+    command: &'static str,
+    options: Vec<(&'static str, Vec<OsString>)>,
+    others: Vec<OsString>,
+}
+
+impl Given {
+    /// There is nothing to split where help is asked for.
+    fn split(
+        reader: &Reader,
+        mut words: impl Iterator<Item = OsString>,
+    ) -> Result<Option<Self>, Failure> {
+        let mut given = Given {
+            command: reader.name,
+            options: Vec::new(),
+            others: Vec::new(),
+        };
+        while let Some(word) = words.next() {
+            if word == "--help" || word == "-h" {
+                return Ok(None);
+            }
+            if word == "--" {
+                given.others.extend(words.by_ref());
+            } else if let Some((name, values)) =
+                reader.options.iter().find(|(name, _)| word == *name)
+            {
+                let values = given.values(name, values, &mut words)?;
+                given.options.push((name, values));
+            } else if is_option(&word) {
+                return Err(given.wrong(format!("there is no option {}", show(&word))));
+            } else {
+                given.others.push(word);
+            }
+        }
+        Ok(Some(given))
+    }
+
+    /// The values of an option. None of them begins with two dashes, so that a
+    /// forgotten value is found.
+    fn values(
+        &self,
+        option: &str,
+        names: &[&str],
+        words: &mut impl Iterator<Item = OsString>,
+    ) -> Result<Vec<OsString>, Failure> {
+        let mut values = Vec::new();
+        for name in names {
+            match words.next() {
+                Some(word) if !word.as_encoded_bytes().starts_with(b"--") => values.push(word),
+                Some(word) => {
+                    let found = show(&word);
+                    return Err(self.wrong(format!("{option} wants {name}, and finds {found}")));
+                }
+                None => return Err(self.wrong(format!("{option} wants {name} after it"))),
+            }
+        }
+        Ok(values)
+    }
+
+    fn wrong(&self, problem: String) -> Failure {
+        usage(self.command, problem)
+    }
+
+    /// The value of an option that is given at most once.
+    fn at_most_one(&self, name: &str) -> Result<Option<&OsString>, Failure> {
+        let mut found = self.options.iter().filter(|(option, _)| *option == name);
+        let first = found.next().map(|(_, values)| &values[0]);
+        match found.next() {
+            Some(_) => Err(self.wrong(format!("{name} is given twice"))),
+            None => Ok(first),
+        }
+    }
+
+    fn one(&self, name: &str) -> Result<&OsString, Failure> {
+        let found = self.at_most_one(name)?;
+        found.ok_or_else(|| self.wrong(format!("{name} is missing")))
+    }
+
+    fn path(&self, name: &str) -> Result<PathBuf, Failure> {
+        Ok(self.one(name)?.into())
+    }
+
+    fn flag(&self, name: &str) -> bool {
+        self.options.iter().any(|(option, _)| *option == name)
+    }
+
+    /// The one burst file.
+    fn file(&self) -> Result<PathBuf, Failure> {
+        match self.others.as_slice() {
+            [file] => Ok(file.into()),
+            [] => Err(self.wrong("the burst file is missing".into())),
+            [_, more, ..] => {
+                Err(self.wrong(format!("one file is wanted; {} is one more", show(more))))
+            }
+        }
+    }
+
+    /// Decimal digits, as text.
+    fn digits(&self, name: &str, word: &OsStr) -> Result<String, Failure> {
+        let text = show(word);
+        match !text.is_empty() && text.bytes().all(|byte| byte.is_ascii_digit()) {
+            true => Ok(text),
+            false => Err(self.wrong(format!("{name} wants decimal digits, not `{text}`"))),
+        }
+    }
+
+    /// A stamp or site mark.
+    fn mark(&self, name: &str, word: &OsStr) -> Result<Vec<u8>, Failure> {
+        let text = word
+            .to_str()
+            .ok_or("text that is not UTF-8; give it as hex:".into());
+        let mark = text.and_then(parse_mark);
+        mark.map_err(|problem| self.wrong(format!("{name}: {problem}")))
+    }
+}
+
+/// A word with a dash in front; a dash alone is standard input.
+fn is_option(word: &OsStr) -> bool {
+    word.len() > 1 && word.as_encoded_bytes().starts_with(b"-")
+}
+
+fn read_record(given: Given) -> Result<Command, Failure> {
+    if let Some(other) = given.others.first() {
+        let problem = format!(
+            "{} stands alone; a shot is --keep STAMP PICTURE or --drop",
+            show(other)
+        );
+        return Err(given.wrong(problem));
+    }
+    let number = given.digits("--number", given.one("--number")?)?;
+    let too_large = |_| given.wrong(format!("--number {number} is above {}", u64::MAX));
+    let mut shots = Vec::new();
+    for (name, values) in &given.options {
+        match (*name, values.as_slice()) {
+            ("--keep", [stamp, picture]) => shots.push(Shot::Keep {
+                stamp: given.mark("the stamp of --keep", stamp)?,
+                picture: picture.into(),
+            }),
+            ("--drop", _) => shots.push(Shot::Drop),
+            _ => {}
+        }
+    }
+    Ok(Command::Record(Record {
+        key: given.path("--key")?,
+        burst_number: number.parse().map_err(too_large)?,
+        site_mark: given.mark("--site-mark", given.one("--site-mark")?)?,
+        out: given.path("--out")?,
+        force: given.flag("--force"),
+        shots,
+    }))
+}
+
+fn read_fetch(given: Given) -> Result<Command, Failure> {
+    let place = given.at_most_one("--place")?;
+    let out = given.at_most_one("--out")?;
+    let all = given.at_most_one("--all")?;
+    let pictures = match (place, out, all) {
+        (Some(place), Some(out), None) => {
+            let typed = given.digits("--place", place)?;
+            let number = typed.parse().ok();
+            let place = PlaceTyped { typed, number };
+            Wanted::One {
+                place,
+                out: out.into(),
+            }
+        }
+        (None, None, Some(folder)) => Wanted::All {
+            folder: folder.into(),
+        },
+        _ => {
+            let problem = "either --place N --out FILE is wanted, or --all DIRECTORY";
+            return Err(given.wrong(problem.into()));
+        }
+    };
+    Ok(Command::Fetch(Fetch {
+        key: given.path("--key")?,
+        file: given.file()?,
+        force: given.flag("--force"),
+        pictures,
+    }))
+}

@@ -1,0 +1,119 @@
+//! What --help prints.
+
+pub const ALL: &str = "\
+burst: the pictures of one trigger of a trail camera, sealed in one file
+
+Commands:
+  burst record --key FILE --number N --site-mark MARK --out FILE [--force] SHOTS...
+                              seals pictures into a new burst file
+  burst list FILE             shows burst number, counts and kept shots; needs no key
+  burst check --key FILE FILE
+                              tests every tag; shows burst number, site mark and counts
+  burst fetch --key FILE --place N --out PICTURE [--force] FILE
+  burst fetch --key FILE --all DIRECTORY [--force] FILE
+                              checks the file, then writes one picture or all of them
+  burst explain FILE          draws the layout of the file; needs no key
+  burst COMMAND --help        says more of a command
+  burst --version             shows the version
+
+A burst FILE that is - is read from standard input (list, check, fetch, explain).
+A shot number counts firings from 1. A place counts kept pictures from 0.
+
+Keys:
+  A key is read from a file, never from the command line: 16 raw bytes, or 32 hex
+  digits with or without a line end.
+
+Output files:
+  They are written whole or not at all, and no file is replaced without --force.
+
+Exit status:
+  0   done
+  1   refused: the key is not 16 bytes
+  3   refused: a stamp or site mark is not 16 bytes
+  7   refused: a tag differs; the file was changed, or the key is another
+  9   refused: more than 60 shots
+  10  refused: a picture does not have 1 to 1,048,576 bytes
+  12  refused: a front rule is broken; this is no whole burst file
+  13  refused: there is no picture at that place
+  64  the command line is wrong
+  65  list: the file has more than 65,536 bytes
+  73  an output file exists already (see --force), or is not a plain file
+  74  a file cannot be read or written
+";
+
+pub const RECORD: &str = "\
+burst record --key FILE --number N --site-mark MARK --out FILE [--force] SHOTS...
+
+Seals the pictures of one trigger into a new burst file.
+
+  --key FILE         the camera's key: 16 raw bytes, or 32 hex digits
+  --number N         the burst number, 0 to 18446744073709551615. Under one key, use
+                     each burst number once only: a number used twice gives away what
+                     the pictures of both bursts have in common
+  --site-mark MARK   where the camera stands, 16 bytes
+  --out FILE         the burst file to write
+  --force            replaces the file if it exists
+
+Shots, in the order of firing, at most 60:
+  --keep STAMP PICTURE   a picture that is kept: its stamp of 16 bytes, and its file
+                         of 1 to 1,048,576 bytes
+  --drop                 a shot whose picture is not kept
+
+MARK and STAMP are hex: and 32 hex digits, or else text of at most 16 bytes, which is
+filled up with zero bytes.
+
+Example:
+  burst record --key camera.key --number 7 --site-mark 'north ridge' --out 7.burst \\
+      --drop --keep '2024-05-01 06:12' fox.jpg --drop
+";
+
+pub const LIST: &str = "\
+burst list FILE
+
+Shows what stands in the front of a burst file of at most 65,536 bytes: burst number,
+counts, and a line for each kept picture with shot number, record offset and picture
+length. It needs no key, and so it tests no tag: `burst check` does.
+
+It prints `front 12` (exit status 12) for a file that is no whole burst file, and
+`front too long` (exit status 65) for a longer one.
+";
+
+pub const CHECK: &str = "\
+burst check --key FILE FILE
+
+Tests a whole burst file: its front, its closing seal and every record. If all is
+right, it shows burst number, site mark and counts. If not, it names the refusal, and
+the exit status is its number:
+
+  1   the key is not 16 bytes
+  12  a front rule is broken: this is no whole burst file
+  7   a tag differs, of the closing seal or of the record of a shot
+";
+
+pub const FETCH: &str = "\
+burst fetch --key FILE --place N --out PICTURE [--force] FILE
+burst fetch --key FILE --all DIRECTORY [--force] FILE
+
+Checks a whole burst file as `burst check` does, and only then writes pictures.
+
+  --place N --out PICTURE   the picture of place N to the file PICTURE. Places count
+                            kept pictures from 0; they are not shot numbers
+  --all DIRECTORY           every kept picture to a file of its own in DIRECTORY, named
+                            by its shot number: shot-002 is the second shot. DIRECTORY
+                            is made if it is not there. If one picture cannot be
+                            written, none is
+  --force                   replaces files that exist
+
+It shows shot number, place, length and stamp of each picture. Exit status as of
+`burst check`, and 13 if there is no picture at that place.
+";
+
+pub const EXPLAIN: &str = "\
+burst explain FILE
+
+Draws the layout of a burst file: header, records, index and closing seal, with their
+offsets and lengths. It needs no key, and so it tests no tag: `burst check` does.
+
+For a file that is no whole burst file (exit status 12) it shows what the bytes of the
+header say, as far as they are there, and which front rules they break.
+";

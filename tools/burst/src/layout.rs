@@ -1,0 +1,196 @@
+//! The fields of a burst file's front, and which front rules they break, for
+//! people to read. Whether a front is right, the library decides.
+
+use crate::library::{MAX_FILE_BYTES, MAX_PICTURE_BYTES, MAX_SHOTS};
+
+pub const HEADER_BYTES: u64 = 32;
+pub const ENTRY_BYTES: u64 = 12;
+pub const SEAL_BYTES: u64 = 32;
+const MIN_FILE_BYTES: u64 = 64;
+
+/// A field of the header.
+pub struct Field {
+    pub offset: usize,
+    pub length: usize,
+    pub name: &'static str,
+}
+
+const fn field(offset: usize, length: usize, name: &'static str) -> Field {
+    Field {
+        offset,
+        length,
+        name,
+    }
+}
+
+pub const FIELDS: [Field; 9] = [
+    field(0, 2, "edition"),
+    field(2, 2, "taken"),
+    field(4, 2, "kept"),
+    field(6, 2, "dropped"),
+    field(8, 8, "burst number"),
+    field(16, 4, "picture offset"),
+    field(20, 4, "index offset"),
+    field(24, 4, "closing offset"),
+    field(28, 4, "total length"),
+];
+
+/// The little-endian number of some bytes, if the file has them.
+pub fn number(file: &[u8], offset: usize, length: usize) -> Option<u64> {
+    let bytes = file.get(offset..offset.checked_add(length)?)?;
+    Some(
+        bytes
+            .iter()
+            .rev()
+            .fold(0, |sum, byte| sum << 8 | u64::from(*byte)),
+    )
+}
+
+/// The header. Its numbers are all held in 64 bits, so that no sum of lengths
+/// and offsets wraps.
+pub struct Header {
+    pub edition: u64,
+    pub taken: u64,
+    pub kept: u64,
+    pub dropped: u64,
+    pub burst_number: u64,
+    pub picture_offset: u64,
+    pub index_offset: u64,
+    pub closing_offset: u64,
+    pub total: u64,
+}
+
+impl Header {
+    /// The header of a file, if the file has all of it.
+    pub fn of(file: &[u8]) -> Option<Self> {
+        let value = |at: usize| number(file, FIELDS[at].offset, FIELDS[at].length);
+        Some(Header {
+            edition: value(0)?,
+            taken: value(1)?,
+            kept: value(2)?,
+            dropped: value(3)?,
+            burst_number: value(4)?,
+            picture_offset: value(5)?,
+            index_offset: value(6)?,
+            closing_offset: value(7)?,
+            total: value(8)?,
+        })
+    }
+}
+
+/// An index entry.
+pub struct Entry {
+    pub shot: u64,
+    pub zero: u64,
+    pub offset: u64,
+    pub length: u64,
+}
+
+impl Entry {
+    /// Where the record ends.
+    pub fn end(&self) -> u64 {
+        self.offset + self.length + SEAL_BYTES
+    }
+}
+
+/// The index entries, as many of them as the file has.
+pub fn entries(file: &[u8], header: &Header) -> Vec<Entry> {
+    let entry = |place: u64| {
+        let at = usize::try_from(header.index_offset + ENTRY_BYTES * place).ok()?;
+        Some(Entry {
+            shot: number(file, at, 2)?,
+            zero: number(file, at + 2, 2)?,
+            offset: number(file, at + 4, 4)?,
+            length: number(file, at + 8, 4)?,
+        })
+    };
+    (0..header.kept).map_while(entry).collect()
+}
+
+/// A front rule that is broken: its number in docs/FORMAT.md, and how.
+pub type Broken = (u8, String);
+
+/// The front rules that a file breaks: all those of header and length; only if
+/// there are none of these, the first one of the index.
+pub fn broken_rules(file: &[u8]) -> Vec<Broken> {
+    let length = file.len() as u64;
+    let mut broken = Vec::new();
+    if length < MIN_FILE_BYTES {
+        broken.push((
+            1,
+            format!("a burst file has at least {MIN_FILE_BYTES} bytes"),
+        ));
+    }
+    if let Some(header) = Header::of(file) {
+        broken.extend(broken_header(&header, length));
+        if broken.is_empty() {
+            broken.extend(broken_index(&header, &entries(file, &header)));
+        }
+    }
+    broken
+}
+
+/// Broken, where a value is not the one it must be.
+fn unlike(rule: u8, name: &str, value: u64, wanted: u64, why: &str) -> Option<Broken> {
+    let words = || format!("{name} is {value}, and must be {wanted}{why}");
+    (value != wanted).then(|| (rule, words()))
+}
+
+fn broken_header(header: &Header, length: u64) -> impl Iterator<Item = Broken> {
+    let h = header;
+    let taken = h.taken;
+    let too_many = (3, format!("taken is {taken}, and is at most {MAX_SHOTS}"));
+    let sum = h.kept + h.dropped;
+    let index_end = h.index_offset + ENTRY_BYTES * h.kept;
+    let closing = h.closing_offset;
+    let seal_end = closing + SEAL_BYTES;
+    // A file is read no further than one byte past the largest burst.
+    let file_length = match length > MAX_FILE_BYTES as u64 {
+        true => " or more, the file's length",
+        false => ", the file's length",
+    };
+    let rules = [
+        unlike(2, "edition", h.edition, 1, ""),
+        unlike(2, "picture offset", h.picture_offset, HEADER_BYTES, ""),
+        (taken > MAX_SHOTS as u64).then_some(too_many),
+        unlike(3, "taken", taken, sum, ", kept and dropped together"),
+        unlike(7, "closing offset", closing, index_end, ", the index's end"),
+        unlike(
+            8,
+            "total length",
+            h.total,
+            seal_end,
+            ", the closing seal's end",
+        ),
+        unlike(8, "total length", h.total, length, file_length),
+    ];
+    rules.into_iter().flatten()
+}
+
+/// The first index rule that is broken.
+fn broken_index(header: &Header, entries: &[Entry]) -> Option<Broken> {
+    let (mut shot_before, mut end) = (0, HEADER_BYTES);
+    for (place, entry) in entries.iter().enumerate() {
+        let broken = broken_entry(entry, shot_before, header.taken, end);
+        if let Some((number, words)) = broken {
+            return Some((number, format!("at place {place}: {words}")));
+        }
+        (shot_before, end) = (entry.shot, entry.end());
+    }
+    let index = header.index_offset;
+    unlike(6, "index offset", index, end, ", the records' end")
+}
+
+fn broken_entry(entry: &Entry, shot_before: u64, taken: u64, offset: u64) -> Option<Broken> {
+    let shot = entry.shot;
+    if shot <= shot_before || shot > taken {
+        let words = format!("shot {shot} after shot {shot_before}, with {taken} shots taken");
+        return Some((4, words));
+    }
+    let length = entry.length;
+    if length < 1 || length > MAX_PICTURE_BYTES as u64 {
+        return Some((5, format!("the picture length is {length}")));
+    }
+    let zero = unlike(5, "the zero field", entry.zero, 0, "");
+    zero.or_else(|| unlike(6, "the record offset", entry.offset, offset, ""))
+}

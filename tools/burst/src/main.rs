@@ -1,0 +1,43 @@
+//! `burst`: records, lists, checks, fetches and explains burst files, over the
+//! proved static library.
+
+#![deny(unsafe_code)]
+
+mod arguments;
+mod explain;
+mod files;
+mod help;
+mod layout;
+#[allow(unsafe_code)]
+mod library;
+mod messages;
+mod progress;
+mod read;
+mod record;
+mod secrets;
+
+use arguments::Command;
+use messages::Failure;
+use std::process::ExitCode;
+
+fn run() -> Result<(), Failure> {
+    let words = std::env::args_os().skip(1).collect();
+    match arguments::parse(words)? {
+        Command::Print(text) => files::print(&text),
+        Command::Record(wanted) => record::record(&wanted),
+        Command::List { file } => read::list(&file),
+        Command::Check { key, file } => read::check(&key, &file),
+        Command::Fetch(wanted) => read::fetch(&wanted),
+        Command::Explain { file } => explain::explain(&file),
+    }
+}
+
+fn main() -> ExitCode {
+    match run() {
+        Ok(()) => ExitCode::SUCCESS,
+        Err(failure) => {
+            messages::show(&failure);
+            ExitCode::from(failure.status())
+        }
+    }
+}

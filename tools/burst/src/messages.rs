@@ -1,0 +1,141 @@
+//! What can go wrong, in words: the refusals of the scope document and the
+//! failures of the tool itself, each with its exit status.
+
+use std::io::{self, ErrorKind, Write};
+use std::path::{Path, PathBuf};
+
+pub const USAGE: u8 = 64;
+pub const TOO_LONG: u8 = 65;
+pub const OUTPUT_THERE: u8 = 73;
+pub const FILE: u8 = 74;
+
+/// Why a command did not do what it was asked.
+pub enum Failure {
+    /// The command line is wrong. The command is empty where none was given.
+    Usage {
+        command: &'static str,
+        problem: String,
+    },
+    /// A call of the library refused, with its number. `about` says of what.
+    Refused { number: u32, about: String },
+    /// The file is longer than the lister reads.
+    TooLong,
+    /// An output is there already, and --force was not given.
+    Exists(PathBuf),
+    /// Something that is not a plain file has the name of an output.
+    NotAFile(PathBuf),
+    /// A file could not be read, written or named.
+    File {
+        doing: &'static str,
+        path: PathBuf,
+        error: io::Error,
+    },
+    /// Standard output could not be written. Output files stand by then.
+    Print(io::Error),
+}
+
+impl Failure {
+    pub fn file(doing: &'static str, path: &Path, error: io::Error) -> Self {
+        let path = path.to_path_buf();
+        Failure::File { doing, path, error }
+    }
+
+    pub fn status(&self) -> u8 {
+        match self {
+            Failure::Usage { .. } => USAGE,
+            // Every number of the library is far below 256.
+            Failure::Refused { number, .. } => u8::try_from(*number).unwrap_or(u8::MAX),
+            Failure::TooLong => TOO_LONG,
+            Failure::Exists(_) | Failure::NotAFile(_) => OUTPUT_THERE,
+            Failure::File { .. } | Failure::Print(_) => FILE,
+        }
+    }
+
+    /// What is wrong.
+    fn problem(&self) -> String {
+        match self {
+            Failure::Usage { problem, .. } => problem.clone(),
+            Failure::Refused { number, about } => {
+                format!("refused with {number}: {}: {about}", words(*number))
+            }
+            Failure::TooLong => "the file has more than 65,536 bytes; list reads no more".into(),
+            Failure::Exists(path) => format!("{} exists already", path.display()),
+            Failure::NotAFile(path) => {
+                format!("{} is there and is not a plain file", path.display())
+            }
+            Failure::File { doing, path, error } => {
+                format!("cannot {doing} {}: {error}", path.display())
+            }
+            Failure::Print(error) => format!("cannot write to standard output: {error}"),
+        }
+    }
+
+    /// What to do about it.
+    fn remedy(&self) -> String {
+        match self {
+            Failure::Usage { command: "", .. } => "`burst --help` shows the commands.".into(),
+            Failure::Usage { command, .. } => {
+                format!("`burst {command} --help` shows how it is called.")
+            }
+            Failure::Refused { number, .. } => advice(*number).into(),
+            Failure::TooLong => {
+                "`burst explain FILE` shows a file of any length, also without a key.".into()
+            }
+            Failure::Exists(_) => "Give another name, or --force to replace the file.".into(),
+            Failure::NotAFile(_) => "Give another name; --force replaces plain files only.".into(),
+            Failure::File { .. } => {
+                "Look at the name, the rights and the room there. No output file was written."
+                    .into()
+            }
+            Failure::Print(_) => "Output files, where they were asked for, are written.".into(),
+        }
+    }
+}
+
+/// A refusal number in words, as include/burst.h has them.
+fn words(number: u32) -> &'static str {
+    match number {
+        1 => "the key is not 16 bytes",
+        3 => "a stamp or site mark is not 16 bytes",
+        5 => "an output is too short",
+        7 => "a tag differs",
+        8 => "the burst is closed, or its begin was refused",
+        9 => "the burst is full",
+        10 => "a picture has 1 to 1,048,576 bytes",
+        11 => "the file buffer is too short",
+        12 => "a front rule is broken",
+        13 => "there is no such place",
+        _ => "a number that burst.h does not name",
+    }
+}
+
+/// What to do about a refusal.
+fn advice(number: u32) -> &'static str {
+    match number {
+        1 => "Give a key file of 16 raw bytes, or of 32 hex digits.",
+        3 => "Give text of at most 16 bytes, or hex: and 32 hex digits.",
+        7 => {
+            "The file was changed, or sealed under another key. Try the camera's own key, then \
+             copy the file from the card again; if it is refused still, do not use its pictures."
+        }
+        9 => "Put at most 60 shots into a burst, and the others into a burst of another number.",
+        10 => "Leave the picture out with --drop, or give one of that size.",
+        12 => {
+            "This is no whole burst file: it may be cut, or another file. Copy it from the card \
+             again; `burst explain FILE` shows what its header says."
+        }
+        13 => "Places count kept pictures from 0; they are not shot numbers. `burst explain FILE` shows both.",
+        _ => "This is a fault of the tool. Please report it, with the command that you gave.",
+    }
+}
+
+/// Writes the failure to standard error. Where that cannot be written either,
+/// the exit status is all that is left to say it.
+pub fn show(failure: &Failure) {
+    // Whoever reads standard output has seen enough and closed it.
+    if matches!(failure, Failure::Print(error) if error.kind() == ErrorKind::BrokenPipe) {
+        return;
+    }
+    let text = format!("burst: {}\n  {}\n", failure.problem(), failure.remedy());
+    let _ = io::stderr().write_all(text.as_bytes());
+}

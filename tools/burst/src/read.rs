@@ -1,0 +1,170 @@
+//! The commands that read a burst file: list, check and fetch.
+
+use crate::arguments::{Fetch, PlaceTyped, Wanted};
+use crate::files::{self, Burst, Outputs};
+use crate::library::{self, Checked, Fetched, Refused, MAX_PICTURE_BYTES};
+use crate::messages::Failure;
+use crate::progress::{megabytes, Progress};
+use crate::secrets::{self, show_mark};
+use std::path::{Path, PathBuf};
+
+const KEY_LENGTH: u32 = 1;
+const TAG_DIFFERS: u32 = 7;
+const FRONT_BROKEN: u32 = 12;
+const NO_SUCH_PLACE: u32 = 13;
+
+/// A refusal of a file: under 7 it names the part whose tag differs.
+fn refused(file: &str, refused: Refused) -> Failure {
+    let about = match (refused.number, refused.mark) {
+        (TAG_DIFFERS, 0) => format!("that of the closing seal of {file}"),
+        (TAG_DIFFERS, shot) => format!("that of the record of shot {shot} of {file}"),
+        _ => file.to_string(),
+    };
+    let number = refused.number;
+    Failure::Refused { number, about }
+}
+
+/// `burst list`: what the lister prints, and a refusal where it prints one.
+pub fn list(path: &Path) -> Result<(), Failure> {
+    let Burst { name, bytes } = files::read_burst(path)?;
+    let text = library::list(&bytes).map_err(|found| refused(&name, found))?;
+    files::print(&String::from_utf8_lossy(&text))?;
+    match text.as_slice() {
+        b"front too long\n" => Err(Failure::TooLong),
+        b"front 12\n" => {
+            let (number, about) = (FRONT_BROKEN, name);
+            Err(Failure::Refused { number, about })
+        }
+        _ => Ok(()),
+    }
+}
+
+/// A burst file and its key, after check has accepted the file.
+struct Accepted {
+    key: Vec<u8>,
+    burst: Burst,
+    checked: Checked,
+}
+
+fn accept(key_path: &Path, path: &Path) -> Result<Accepted, Failure> {
+    let key = secrets::read_key(key_path)?;
+    let burst = files::read_burst(path)?;
+    let length = burst.bytes.len();
+    let progress = Progress::new(length);
+    progress.say(&format!("checking {}", megabytes(length)));
+    let checked = library::check(&key, &burst.bytes).map_err(|found| match found.number {
+        KEY_LENGTH => refused(&key_path.display().to_string(), found),
+        _ => refused(&burst.name, found),
+    })?;
+    Ok(Accepted {
+        key,
+        burst,
+        checked,
+    })
+}
+
+/// `burst check`.
+pub fn check(key: &Path, path: &Path) -> Result<(), Failure> {
+    let checked = accept(key, path)?.checked;
+    let Checked {
+        burst_number,
+        taken,
+        kept,
+        dropped,
+        ..
+    } = checked;
+    let mark = show_mark(&checked.site_mark);
+    files::print(&format!(
+        "burst {burst_number}\nsite mark {mark}\ntaken {taken} kept {kept} dropped {dropped}\n"
+    ))
+}
+
+/// `burst fetch`. Nothing is written before check has accepted the file.
+pub fn fetch(wanted: &Fetch) -> Result<(), Failure> {
+    let accepted = accept(&wanted.key, &wanted.file)?;
+    let outputs = Outputs::new(wanted.force);
+    let text = match &wanted.pictures {
+        Wanted::One { place, out } => fetch_one(&accepted, place, out, outputs)?,
+        Wanted::All { folder } => fetch_all(&accepted, folder, outputs)?,
+    };
+    files::print(&text)
+}
+
+impl Accepted {
+    /// Fetches the picture of a place into `room`.
+    fn fetch(&self, place: u16, room: &mut [u8]) -> Result<Fetched, Failure> {
+        let fetched = library::fetch(&self.key, &self.burst.bytes, place, room);
+        fetched.map_err(|found| match found.number {
+            NO_SUCH_PLACE => self.no_such_place(&place.to_string()),
+            _ => refused(&self.burst.name, found),
+        })
+    }
+
+    fn no_such_place(&self, place: &str) -> Failure {
+        let kept = self.checked.kept;
+        Failure::Refused {
+            number: NO_SUCH_PLACE,
+            about: format!("{place}, in a burst with {kept} kept"),
+        }
+    }
+}
+
+/// A picture and where it went.
+fn fetched_line(place: u16, fetched: &Fetched, target: &Path) -> String {
+    let Fetched { shot, length, .. } = fetched;
+    let (stamp, target) = (show_mark(&fetched.stamp), target.display());
+    format!("shot {shot} place {place} length {length} stamp {stamp} to {target}\n")
+}
+
+fn fetch_one(
+    accepted: &Accepted,
+    place: &PlaceTyped,
+    out: &Path,
+    mut outputs: Outputs,
+) -> Result<String, Failure> {
+    // A place that does not fit 16 bits is not below kept either.
+    let Some(number) = place.number else {
+        return Err(accepted.no_such_place(&place.typed));
+    };
+    let mut room = vec![0; MAX_PICTURE_BYTES];
+    let progress = Progress::new(accepted.burst.bytes.len());
+    progress.say(&format!("fetching place {number}"));
+    let fetched = accepted.fetch(number, &mut room)?;
+    outputs.write(out, &room[..fetched.length])?;
+    outputs.place()?;
+    Ok(fetched_line(number, &fetched, out))
+}
+
+/// The name of a picture's file: three digits, so that names sort as shots.
+fn picture_name(folder: &Path, shot: u16) -> PathBuf {
+    folder.join(format!("shot-{shot:03}"))
+}
+
+fn fetch_all(accepted: &Accepted, folder: &Path, mut outputs: Outputs) -> Result<String, Failure> {
+    let kept = accepted.checked.kept;
+    // Every fetch checks the whole file again.
+    let progress = Progress::new(accepted.burst.bytes.len() * usize::from(kept));
+    let mut room = vec![0; MAX_PICTURE_BYTES];
+    let mut text = String::new();
+    let mut shot_before = 0;
+    outputs.make_folder(folder)?;
+    for place in 0..kept {
+        progress.say(&format!("fetching picture {} of {kept}", place + 1));
+        let fetched = accepted.fetch(place, &mut room)?;
+        let target = picture_name(folder, fetched.shot);
+        outputs.write(&target, &room[..fetched.length])?;
+        text += &dropped_lines(shot_before + 1, fetched.shot);
+        text += &fetched_line(place, &fetched, &target);
+        shot_before = fetched.shot;
+    }
+    outputs.place()?;
+    text += &dropped_lines(shot_before + 1, accepted.checked.taken + 1);
+    Ok(text)
+}
+
+/// The dropped shots from one shot number up to, not with, another.
+fn dropped_lines(from: u16, to: u16) -> String {
+    (from..to)
+        .map(|shot| format!("shot {shot} dropped\n"))
+        .collect()
+}

@@ -1,0 +1,152 @@
+//! `burst record`: a list of shots becomes a script for the library, and the
+//! buffer that the library fills becomes the file.
+
+use crate::arguments::{Record, Shot};
+use crate::files::{self, Outputs};
+use crate::library::{self, ANSWER_BYTES, MAX_PICTURE_BYTES, MAX_SHOTS};
+use crate::messages::Failure;
+use crate::progress::{megabytes, Progress};
+use crate::secrets;
+
+const DROP: u8 = 0;
+const CLOSE: u8 = 1;
+const KEEP: u8 = 2;
+
+/// The length of a burst file with no picture.
+const EMPTY_FILE_BYTES: usize = 64;
+/// What a kept picture adds to a file beside its own bytes: 32 of its record
+/// and 12 of its index entry.
+const KEPT_BYTES: usize = 32 + 12;
+
+/// The calls after begin, as the library reads them.
+struct Script {
+    bytes: Vec<u8>,
+    calls: usize,
+    /// How long the file is when every call is accepted.
+    file_bytes: usize,
+}
+
+/// The script of the shots and a close. Each shot after the 60th is refused,
+/// so that no more than 61 of them are read.
+fn script_of(shots: &[Shot]) -> Result<Script, Failure> {
+    let mut script = Script {
+        bytes: Vec::new(),
+        calls: 0,
+        file_bytes: EMPTY_FILE_BYTES,
+    };
+    for shot in shots.iter().take(MAX_SHOTS + 1) {
+        match shot {
+            Shot::Drop => script.bytes.push(DROP),
+            Shot::Keep { stamp, picture } => {
+                // One byte more than the longest picture is enough for the
+                // library to refuse it.
+                let picture = files::read_up_to(picture, MAX_PICTURE_BYTES + 1)?;
+                script.push_keep(stamp, &picture);
+            }
+        }
+        script.calls += 1;
+    }
+    script.bytes.push(CLOSE);
+    script.calls += 1;
+    Ok(script)
+}
+
+impl Script {
+    fn push_keep(&mut self, stamp: &[u8], picture: &[u8]) {
+        // A script holds a stamp's length in one byte. Any length but 16 is
+        // refused, so that 255 bytes of a longer stamp do.
+        let stamp = &stamp[..stamp.len().min(255)];
+        self.bytes.extend([KEEP, stamp.len() as u8]);
+        self.bytes.extend((picture.len() as u32).to_le_bytes());
+        self.bytes.extend(stamp);
+        self.bytes.extend(picture);
+        self.file_bytes += picture.len() + KEPT_BYTES;
+    }
+}
+
+/// What a refused call was about: begin is call 0, then the shots from 1.
+fn about(wanted: &Record, call: usize, number: u32) -> String {
+    if call == 0 {
+        return match number {
+            1 => wanted.key.display().to_string(),
+            _ => "the site mark".into(),
+        };
+    }
+    match wanted.shots.get(call - 1) {
+        Some(Shot::Keep { stamp, picture }) if number == 3 => {
+            let (length, picture) = (stamp.len(), picture.display());
+            format!("the stamp of shot {call} ({picture}) has {length}")
+        }
+        Some(Shot::Keep { picture, .. }) => format!("shot {call} ({})", picture.display()),
+        Some(Shot::Drop) => format!("shot {call}, which was to be dropped"),
+        None => "the close".into(),
+    }
+}
+
+/// The first answer that is not 0 refuses the burst. Otherwise the last one is
+/// the close's, with the total.
+fn total(wanted: &Record, answers: &[u8]) -> Result<usize, Failure> {
+    let number = |bytes: &[u8]| {
+        bytes
+            .iter()
+            .rev()
+            .fold(0, |sum, byte| sum << 8 | u32::from(*byte))
+    };
+    let mut total = 0;
+    for (call, answer) in answers.chunks(ANSWER_BYTES).enumerate() {
+        let (refusal, value) = answer.split_at(ANSWER_BYTES / 2);
+        let refusal = number(refusal);
+        if refusal != 0 {
+            let about = about(wanted, call, refusal);
+            return Err(Failure::Refused {
+                number: refusal,
+                about,
+            });
+        }
+        total = number(value) as usize;
+    }
+    Ok(total)
+}
+
+/// The file of the shots.
+fn seal(wanted: &Record, key: &[u8], script: &Script) -> Result<Vec<u8>, Failure> {
+    let mut buffer = vec![0; script.file_bytes];
+    let mut answers = vec![0; ANSWER_BYTES * (1 + script.calls)];
+    let progress = Progress::new(script.bytes.len());
+    progress.say(&format!("sealing {}", megabytes(script.bytes.len())));
+    let mark = &wanted.site_mark;
+    let number = wanted.burst_number;
+    let count = library::replay(key, number, mark, &script.bytes, &mut buffer, &mut answers);
+    assert_eq!(
+        count,
+        1 + script.calls,
+        "burst.h: every call that has room for its answer is performed"
+    );
+    let total = total(wanted, &answers)?;
+    buffer.truncate(total);
+    Ok(buffer)
+}
+
+/// `burst record`.
+pub fn record(wanted: &Record) -> Result<(), Failure> {
+    let mut outputs = Outputs::new(wanted.force);
+    outputs.test(&wanted.out)?;
+    let key = secrets::read_key(&wanted.key)?;
+    let script = script_of(&wanted.shots)?;
+    let file = seal(wanted, &key, &script)?;
+    outputs.write(&wanted.out, &file)?;
+    outputs.place()?;
+    let taken = wanted.shots.len();
+    let kept = wanted
+        .shots
+        .iter()
+        .filter(|shot| matches!(shot, Shot::Keep { .. }))
+        .count();
+    files::print(&format!(
+        "burst {} taken {taken} kept {kept} dropped {} to {}, {} bytes\n",
+        wanted.burst_number,
+        taken - kept,
+        wanted.out.display(),
+        file.len()
+    ))
+}

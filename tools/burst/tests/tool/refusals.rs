@@ -1,0 +1,176 @@
+//! Each refusal: its exit status, its message, and that nothing is written.
+
+use crate::folder::{picture, Folder, STAMP, WORKED};
+
+#[test]
+fn a_key_of_another_length_is_1() {
+    let folder = Folder::new();
+    let hex = "000102030405060708090A0B0C0D0E0F";
+    let keys: [&[u8]; 7] = [
+        b"",
+        &[7; 15],
+        &[7; 17],
+        &hex.as_bytes()[..31],
+        b"000102030405060708090A0B0C0D0E0G",
+        b"000102030405060708090A0B0C0D0E0F\n\n",
+        &[b'0'; 1_000],
+    ];
+    for key in keys {
+        folder.put("key", key);
+        let parts = ["the key is not 16 bytes: key", "32 hex digits"];
+        folder.record(&["--drop"]).refused(1, &parts);
+        folder.say("check --key key 7.burst").refused(1, &parts);
+        folder
+            .say("fetch --key key --place 0 --out picture 7.burst")
+            .refused(1, &parts);
+        folder
+            .say("fetch --key key --all all 7.burst")
+            .refused(1, &parts);
+        folder.check_nothing_new();
+    }
+}
+
+#[test]
+fn a_site_mark_of_another_length_is_3() {
+    let folder = Folder::new();
+    for mark in ["seventeen letters", "hex:", "hex:00", &format!("{STAMP}00")] {
+        let front = "record --key key --number 7 --out out.burst --drop --site-mark";
+        let words: Vec<&str> = front.split(' ').chain([mark]).collect();
+        folder.run(&words).refused(3, &["the site mark", "hex:"]);
+        folder.check_nothing_new();
+    }
+}
+
+#[test]
+fn a_stamp_of_another_length_is_3_with_its_shot() {
+    let folder = Folder::new();
+    // 272 is 16 and 256: a length cut to one byte would pass.
+    let long = "x".repeat(272);
+    for stamp in ["seventeen letters", "hex:", "hex:0011", &long] {
+        let run = folder.record(&["--drop", "--keep", stamp, "fox"]);
+        run.refused(3, &["the stamp of shot 2 (fox)", "hex:"]);
+        folder.check_nothing_new();
+    }
+}
+
+#[test]
+fn shot_61_is_9() {
+    let folder = Folder::new();
+    let run = folder.record(&["--drop"; 61]);
+    run.refused(9, &["shot 61", "at most 60"]);
+    let sixty = ["--keep", "x", "fox"].repeat(60);
+    let run = folder.record(&[&sixty[..], &["--keep", "x", "fox"]].concat());
+    run.refused(9, &["shot 61 (fox)"]);
+    let run = folder.record(&["--drop"; 200]);
+    run.refused(9, &["shot 61"]);
+    folder.check_nothing_new();
+    folder.record(&sixty).done();
+}
+
+#[test]
+fn a_picture_of_another_length_is_10_with_its_shot() {
+    let folder = Folder::new();
+    for length in [0, 1_048_577, 2_000_000] {
+        folder.put("picture", &picture(length, 1));
+        let run = folder.record(&["--keep", "x", "fox", "--drop", "--keep", "x", "picture"]);
+        run.refused(10, &["shot 3 (picture)", "1,048,576 bytes", "--drop"]);
+        std::fs::remove_file(folder.path().join("picture")).unwrap();
+        folder.check_nothing_new();
+    }
+}
+
+/// Check and fetch refuse the file alike, and write nothing.
+fn check_refused(folder: &Folder, number: i32, parts: &[&str]) {
+    for line in [
+        "check --key key 7.burst",
+        "fetch --key key --place 0 --out picture 7.burst",
+        "fetch --key key --place 65536 --out picture 7.burst",
+        "fetch --key key --all all 7.burst",
+    ] {
+        let run = folder.say(line).refused(number, parts);
+        assert_eq!(run.out, "", "{line}");
+    }
+    folder.check_nothing_new();
+}
+
+#[test]
+fn every_damaged_sealed_byte_is_7_and_leaves_no_output() {
+    let folder = Folder::new();
+    for at in (32..67).chain(79..111) {
+        let mut file = WORKED;
+        file[at] ^= 1 << (at % 8);
+        folder.put("7.burst", &file);
+        let part = match at < 67 {
+            true => "that of the record of shot 2 of 7.burst",
+            false => "that of the closing seal of 7.burst",
+        };
+        check_refused(&folder, 7, &["a tag differs", part, "another key"]);
+    }
+}
+
+#[test]
+fn another_key_is_7_at_the_closing_seal() {
+    let folder = Folder::new();
+    folder.put("key", &[9; 16]);
+    check_refused(&folder, 7, &["that of the closing seal of 7.burst"]);
+}
+
+#[test]
+fn every_cut_is_12_also_for_list_and_explain() {
+    let folder = Folder::new();
+    for length in 0..WORKED.len() {
+        folder.put("7.burst", &WORKED[..length]);
+        let parts = ["a front rule is broken: 7.burst", "burst explain"];
+        let run = folder.say("list 7.burst").refused(12, &parts);
+        assert_eq!(run.out, "front 12\n");
+        folder.say("explain 7.burst").refused(12, &parts);
+        folder.say("check --key key 7.burst").refused(12, &parts);
+        folder
+            .say("fetch --key key --all all 7.burst")
+            .refused(12, &parts);
+    }
+    check_refused(&folder, 12, &[]);
+}
+
+#[test]
+fn a_file_longer_than_the_largest_burst_is_12() {
+    let folder = Folder::new();
+    let mut file = WORKED.to_vec();
+    file.resize(63_000_000, 0);
+    folder.put("7.burst", &file);
+    check_refused(&folder, 12, &[]);
+    let run = folder.say("explain 7.burst").refused(12, &[]);
+    assert!(run.out.contains("more than 62917264"), "{}", run.out);
+}
+
+#[test]
+fn a_place_not_below_kept_is_13() {
+    let folder = Folder::new();
+    // 65,536 and 2^32 would be place 0 if they were cut to 16 or 32 bits.
+    for place in [
+        "1",
+        "60",
+        "65535",
+        "65536",
+        "65537",
+        "4294967296",
+        "18446744073709551616",
+    ] {
+        let line = format!("fetch --key key --place {place} --out picture 7.burst");
+        let about = format!("there is no such place: {place}, in a burst with 1 kept");
+        folder
+            .say(&line)
+            .refused(13, &[&about, "from 0", "not shot numbers"]);
+        folder.check_nothing_new();
+    }
+}
+
+#[test]
+fn the_key_comes_before_the_front_and_the_front_before_tags() {
+    let folder = Folder::new();
+    folder.put("7.burst", &WORKED[..110]);
+    folder.put("key", &[9; 16]);
+    check_refused(&folder, 12, &[]);
+    folder.put("key", &[9; 15]);
+    check_refused(&folder, 1, &[]);
+}
