@@ -1,11 +1,9 @@
 # The whole interface. `make test` is the gate; its last line counts what passed and what failed.
 .PHONY: demo test lib bench
 
-# Records a burst, checks it, reads it back, changes one byte and sees it refused.
+# Shows the tool `burst`: records a burst, lists, explains and checks it, reads it back, changes one byte and sees it refused.
 demo: lib
-	@mkdir -p build
-	@gcc -std=c11 -Wall -Wextra -Werror -Iinclude tests/burst_calls/c/record_and_read.c target/staticlib/libburst_c.a -o build/record_and_read
-	@build/record_and_read
+	@sh scripts/demo.sh
 
 test:
 	@sh scripts/test.sh
