@@ -33,6 +33,14 @@ fn an_existing_file_is_replaced_only_by_force() {
 }
 
 #[test]
+fn record_looks_for_an_existing_file_before_it_reads() {
+    let folder = Folder::new();
+    folder.put("out.burst", b"earlier");
+    let run = folder.record(&["--keep", "x", "none"]);
+    run.failed(73, &["out.burst exists already"]);
+}
+
+#[test]
 fn a_refusal_leaves_an_earlier_file_also_by_force() {
     let folder = Folder::new();
     folder.put("picture", b"earlier");
