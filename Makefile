@@ -13,7 +13,7 @@ test:
 lib:
 	@sh scripts/lib.sh
 
-# Times the proved code against C in one run, and counts its instructions.
+# Times the proved code against C and OpenSSL, counts its instructions, and writes the figures of docs/BENCHMARKS.md and docs/benchmarks.svg.
 bench:
 	@sh bench/run.sh
 

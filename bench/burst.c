@@ -1,87 +1,191 @@
 /*
- * Times check, fetch and recording of the largest burst, 60 pictures of 1,048,576 bytes, against sealing the same bytes, turn about in one run.
+ * Times recording, check and fetch of bursts against sealing, turn about in one run.
+ *   burst largest   a table of the page: 60 pictures of 1,048,576 bytes, against sealing the same bytes
+ *   burst growth    two tables of the page, which bench/plot.awk draws: by the size of the picture, and by the number of pictures
  */
 #include <stdint.h>
-#include <stdio.h>
-#include <stdlib.h>
 #include <string.h>
-#include <x86intrin.h>
 #include "../include/burst.h"
 #include "../include/icepole.h"
+#include "timing.h"
 
-enum { PICTURES = BURST_MAX_SHOTS, PICTURE = BURST_MAX_PICTURE_BYTES, TURNS = 9 };
-enum { KEEP = 6 + BURST_STAMP_BYTES + PICTURE, SCRIPT = PICTURES * KEEP + 1, FILE_BYTES = 32 + PICTURES * (PICTURE + 32) + PICTURES * 12 + 32 };
+enum { MIB = BURST_MAX_PICTURE_BYTES, SHAPES = 11, CALLS = 4, TURNS = 101 };
+enum { HEADER = 32, ENTRY = 12, OVERHEAD = ICEPOLE128_OVERHEAD_BYTES };          /* of the file */
+enum { CLOSE = 1, KEEP = 2, KEEP_FRONT = 6 + BURST_STAMP_BYTES, CLOSE_BYTES = 1 }; /* of a script (burst.h) */
 
-static uint8_t key[16], nonce[16], mark16[16], ad[12], answers[BURST_ANSWER_BYTES * (PICTURES + 2)];
-static uint8_t check_info[BURST_CHECK_INFO_BYTES], fetch_info[BURST_FETCH_INFO_BYTES], out[PICTURE], sealed[PICTURE + 32];
-static uint8_t *script, *file;
+struct burst {
+    size_t pictures, bytes, script_len, file_len;
+    uint8_t *script, *file;
+};
 
-static int ascending(const void *a, const void *b)
+typedef void (*call_t)(const struct burst *);
+
+static uint8_t key[16], nonce[16], mark16[16], ad[ENTRY], answers[BURST_ANSWER_BYTES * (BURST_MAX_SHOTS + 2)];
+static uint8_t info[BURST_CHECK_INFO_BYTES], out[MIB], sealed[MIB + OVERHEAD];
+static uint32_t mark, offset, size;
+
+static void must(int done)
 {
-    double x = *(const double *)a, y = *(const double *)b;
-    return (x > y) - (x < y);
+    if (done)
+        return;
+    fprintf(stderr, "a call on a burst was refused\n");
+    exit(1);
 }
 
-static double median(double *v)
+static void seal(const struct burst *b)
 {
-    qsort(v, TURNS, sizeof *v, ascending);
-    return v[TURNS / 2];
+    for (size_t i = 0; i < b->pictures; i++)
+        must(!icepole128_seal(key, 16, nonce, 16, mark16, 16, ad, ENTRY, ad, 0,
+                              b->script + i * (KEEP_FRONT + b->bytes) + KEEP_FRONT, b->bytes, sealed, sizeof sealed));
 }
 
-static double seal_all(void)
+static void record(const struct burst *b)
 {
-    unsigned long long t = __rdtsc();
-    for (int i = 0; i < PICTURES; i++)
-        if (icepole128_seal(key, 16, nonce, 16, mark16, 16, ad, 12, ad, 0, script + i * KEEP + 22, PICTURE, sealed, sizeof sealed)) exit(1);
-    return (double)(__rdtsc() - t);
+    must(burst_replay(key, 16, 7, mark16, 16, b->script, b->script_len, b->file, b->file_len, answers, sizeof answers) == b->pictures + 2);
 }
 
-static double record(void)
+static void check(const struct burst *b) { must(!burst_check(key, 16, b->file, b->file_len, &mark, info, sizeof info)); }
+
+static void fetch(const struct burst *b, size_t place)
 {
-    unsigned long long t = __rdtsc();
-    if (burst_replay(key, 16, 7, mark16, 16, script, SCRIPT, file, FILE_BYTES, answers, sizeof answers) != PICTURES + 2) exit(1);
-    return (double)(__rdtsc() - t);
+    must(!burst_fetch(key, 16, b->file, b->file_len, (uint16_t)place, out, sizeof out, &mark, info, sizeof info));
 }
 
-static double check(void)
+static void fetch_last(const struct burst *b) { fetch(b, b->pictures - 1); }
+
+static void fetch_each(const struct burst *b)
 {
-    uint32_t mark;
-    unsigned long long t = __rdtsc();
-    if (burst_check(key, 16, file, FILE_BYTES, &mark, check_info, sizeof check_info)) exit(1);
-    return (double)(__rdtsc() - t);
+    for (size_t place = 0; place < b->pictures; place++)
+        fetch(b, place);
 }
 
-static double fetch(void)
+static void locate_last(const struct burst *b)
 {
-    uint32_t mark;
-    unsigned long long t = __rdtsc();
-    if (burst_fetch(key, 16, file, FILE_BYTES, 59, out, sizeof out, &mark, fetch_info, sizeof fetch_info)) exit(1);
-    return (double)(__rdtsc() - t);
+    must(!burst_record(key, 16, b->file, b->file_len, (uint16_t)(b->pictures - 1), &mark, &offset, &size));
 }
 
-int main(void)
+/* A recorded burst of so many pictures of so many bytes. It is never freed: the program uses each to its end. */
+static struct burst burst_of(size_t pictures, size_t bytes)
 {
-    double recorded[TURNS], checked[TURNS], fetched[TURNS];
-    script = malloc(SCRIPT);
-    file = malloc(FILE_BYTES);
-    if (!script || !file) return 1;
-    memset(file, 1, FILE_BYTES);
-    for (size_t i = 0; i < SCRIPT; i++) script[i] = (uint8_t)(i * 31 + 7);
-    for (int i = 0; i < PICTURES; i++) {
-        uint8_t head[6] = {2, BURST_STAMP_BYTES, 0, 0, 0x10, 0}; /* 1,048,576 */
-        memcpy(script + i * KEEP, head, 6);
+    size_t keep = KEEP_FRONT + bytes;
+    struct burst b = {
+        .pictures = pictures, .bytes = bytes,
+        .script_len = pictures * keep + CLOSE_BYTES,
+        .file_len = HEADER + pictures * (bytes + OVERHEAD + ENTRY) + OVERHEAD,
+    };
+    b.script = malloc(b.script_len);
+    b.file = malloc(b.file_len);
+    must(b.script && b.file);
+    for (size_t i = 0; i < b.script_len; i++)
+        b.script[i] = (uint8_t)(i * 31 + 7);
+    for (size_t i = 0; i < pictures; i++) {
+        uint8_t front[6] = {KEEP, BURST_STAMP_BYTES, (uint8_t)bytes, (uint8_t)(bytes >> 8), (uint8_t)(bytes >> 16), 0};
+        memcpy(b.script + i * keep, front, sizeof front);
     }
-    script[SCRIPT - 1] = 1;
-    record();
-    for (int i = 0; i < TURNS; i++) {
-        double s = seal_all();
-        recorded[i] = record() / s;
-        checked[i] = check() / s;
-        fetched[i] = fetch() / s;
+    b.script[b.script_len - 1] = CLOSE;
+    record(&b);
+    check(&b);
+    return b;
+}
+
+/* Short bursts are taken many times over, so that a turn is long against the clock's own time. */
+static double timed(call_t call, const struct burst *b)
+{
+    size_t times = 1 + 65536 / (b->pictures * b->bytes + 512);
+    double from = now();
+    for (size_t i = 0; i < times; i++)
+        call(b);
+    return (now() - from) / (double)times;
+}
+
+static void largest(void)
+{
+    static const struct { const char *name; call_t call; double limit; } rows[CALLS] = {
+        {"recording them (`burst_replay`)", record, 0},
+        {"check", check, 1.10},
+        {"fetch: check, and one picture of 60 opened", fetch_last, 0},
+        {"record: check, and where a sealed record stands", locate_last, 0},
+    };
+    static double turn[CALLS][TURNS];
+    enum { LARGEST_TURNS = 9 };
+    struct burst b = burst_of(BURST_MAX_SHOTS, MIB);
+    for (int i = 0; i < LARGEST_TURNS; i++) {
+        double sealing = timed(seal, &b);
+        for (int r = 0; r < CALLS; r++)
+            turn[r][i] = timed(rows[r].call, &b) / sealing;
     }
-    printf("60 pictures of 1 MiB, medians of %d turns, as parts of the time of sealing the same bytes\n", TURNS);
-    printf("  record  %.3f\n", median(recorded));
-    printf("  check   %.3f   (wanted: at most 1.10)\n", median(checked));
-    printf("  fetch   %.3f   (check, and one picture of 60 opened)\n", median(fetched));
+    printf("| 60 pictures of 1 MiB | time / sealing the same bytes | wanted |\n|---|---|---|\n");
+    for (int r = 0; r < CALLS; r++) {
+        printf("| %s |", rows[r].name);
+        print_cell(median(turn[r], LARGEST_TURNS), rows[r].limit);
+        rows[r].limit > 0 ? printf(" at most %.2f |\n", rows[r].limit) : printf(" |\n");
+    }
+}
+
+struct study {
+    const char *title, *head; /* head: the table's first line; bench/plot.awk names the curves after it */
+    const struct burst *bursts, *reference;
+    int count, by_byte, turns; /* by_byte: times of a byte, not of the burst */
+    call_t calls[CALLS];       /* ended by NULL */
+};
+
+static double per(const struct study *y, const struct burst *b) { return y->by_byte ? (double)b->bytes : 1; }
+
+/* Decimals that give about three digits. */
+static int decimals(double figure) { return figure < 10 ? 2 : figure < 100 ? 1 : 0; }
+
+/* Each time is set against sealing the reference just before it; it is sealed once untimed, since the burst before has filled the caches. */
+static void study(const struct study *y)
+{
+    static double turn[SHAPES][CALLS][TURNS], unit[TURNS];
+    for (int i = 0; i < y->turns; i++)
+        for (int s = 0; s < y->count; s++) {
+            seal(y->reference);
+            unit[i] = timed(seal, y->reference) / per(y, y->reference);
+            for (int k = 0; y->calls[k]; k++)
+                turn[s][k][i] = timed(y->calls[k], &y->bursts[s]) / per(y, &y->bursts[s]) / unit[i];
+        }
+    double ns = median(unit, y->turns);
+    printf("%s (%.*f ns here):\n\n%s\n|---|---|---|---|\n", y->title, decimals(ns), ns, y->head);
+    for (int s = 0; s < y->count; s++) {
+        printf("| %zu |", y->by_byte ? y->bursts[s].bytes : y->bursts[s].pictures);
+        for (int k = 0; y->calls[k]; k++) {
+            double figure = median(turn[s][k], y->turns);
+            printf(" %.*f |", decimals(figure), figure);
+        }
+        printf("\n");
+    }
+}
+
+static void growth(void)
+{
+    static const size_t numbers[] = {1, 2, 4, 8, 15, 30, 60};
+    enum { NUMBERS = sizeof numbers / sizeof *numbers };
+    struct burst by_size[SHAPES], by_number[NUMBERS];
+    for (int s = 0; s < SHAPES; s++)
+        by_size[s] = burst_of(1, (size_t)1 << 2 * s);
+    for (int s = 0; s < NUMBERS; s++)
+        by_number[s] = burst_of(numbers[s], 65536);
+    study(&(struct study){
+        .title = "Time a byte of a burst with one picture, where a byte of sealing 1 MiB is 1",
+        .head = "| bytes of the picture | check | seal | record |",
+        .bursts = by_size, .reference = &by_size[SHAPES - 1], .count = SHAPES, .by_byte = 1, .turns = TURNS,
+        .calls = {check, seal, record, NULL},
+    });
+    printf("\n");
+    study(&(struct study){
+        .title = "Time of a burst with pictures of 64 KiB, where sealing one such picture is 1",
+        .head = "| pictures | check | fetch of one | fetch of each |",
+        .bursts = by_number, .reference = &by_number[0], .count = NUMBERS, .by_byte = 0, .turns = 15,
+        .calls = {check, fetch_last, fetch_each, NULL},
+    });
+}
+
+int main(int argc, char **argv)
+{
+    if (argc == 2 && !strcmp(argv[1], "largest"))
+        largest();
+    else
+        growth();
     return 0;
 }
