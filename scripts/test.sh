@@ -42,18 +42,19 @@ prove() {
     fi
 }
 
-# The sums over cargo's lines 'test result: ok. N passed; M failed; ..'.
+# The sums over cargo's lines 'test result: ok. N passed; M failed; ..', of the workspace in a folder.
 rust_tests() {
-    (cd tests && cargo test --offline --no-fail-fast) >build/cargo.log 2>&1
+    log=build/cargo-$(basename "$1").log
+    (cd "$1" && cargo test --offline --no-fail-fast) >"$log" 2>&1
     status=$?
-    grep -E '^test |^test result|panicked|error' build/cargo.log | grep -v ' \.\.\. ok$' | cut -c1-200
-    n=$(sed -n 's/^test result: [A-Za-z]*\. \([0-9]*\) passed; \([0-9]*\) failed;.*/\1/p' build/cargo.log | awk '{s += $1} END {print s + 0}')
-    m=$(sed -n 's/^test result: [A-Za-z]*\. \([0-9]*\) passed; \([0-9]*\) failed;.*/\2/p' build/cargo.log | awk '{s += $1} END {print s + 0}')
+    grep -E '^test |^test result|panicked|error' "$log" | grep -v ' \.\.\. ok$' | cut -c1-200
+    n=$(sed -n 's/^test result: [A-Za-z]*\. \([0-9]*\) passed; \([0-9]*\) failed;.*/\1/p' "$log" | awk '{s += $1} END {print s + 0}')
+    m=$(sed -n 's/^test result: [A-Za-z]*\. \([0-9]*\) passed; \([0-9]*\) failed;.*/\2/p' "$log" | awk '{s += $1} END {print s + 0}')
     passed=$((passed + n))
     failed=$((failed + m))
     if { [ "$status" -ne 0 ] && [ "$m" -eq 0 ]; } || [ "$n" -eq 0 ]; then
-        echo "FAILED: cargo test (exit status $status)"
-        tail -n 20 build/cargo.log
+        echo "FAILED: cargo test in $1 (exit status $status)"
+        tail -n 20 "$log"
         failed=$((failed + 1))
     fi
 }
@@ -131,6 +132,12 @@ soak() {
     tail -n 1 build/soak.log | grep '^100000 cases, 0 differ$'
 }
 
+# The demonstration, with the libraries that make lib has built.
+demo() {
+    make -s -o lib demo >build/demo.log 2>&1 || { tail -n 30 build/demo.log; return 1; }
+    tail -n 1 build/demo.log
+}
+
 lib() {
     make -s lib >build/lib.log 2>&1 || { cat build/lib.log; return 1; }
 }
@@ -149,7 +156,9 @@ step "the C program of bursts, sanitized" c_sanitized tests/burst_calls/c/record
 step "the example, sanitized" c_sanitized examples/firmware.c libburst_c.a build/card.burst
 step "icepole from build/lib" moved_folder tests/c_calls/c/roundtrip.c icepole
 step "burst from build/lib" moved_folder examples/firmware.c burst build/card.burst
-rust_tests
+rust_tests tests
+rust_tests tools/burst
+step "make demo" demo
 step "soak" soak
 echo "$passed passed, $failed failed" | tee build/result
 [ "$failed" -eq 0 ]

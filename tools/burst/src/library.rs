@@ -9,7 +9,7 @@ pub const MAX_FILE_BYTES: usize = 64 + MAX_SHOTS * (MAX_PICTURE_BYTES + 32 + 12)
 
 const CHECK_INFO_BYTES: usize = 30;
 const FETCH_INFO_BYTES: usize = 22;
-const LIST_TEXT_BYTES: usize = 4_096;
+const LIST_TEXT_BYTES: usize = 4_800;
 
 extern "C" {
     fn burst_replay(
