@@ -40,10 +40,10 @@ pub const MAX_SHOTS: u16 = 60;
 
 const MAX_PICTURE: u32 = 1048576;
 
-const ENTRY_LENGTH: usize = 12;
+pub const ENTRY_LENGTH: usize = 12;
 
 // Bytes by which sealing lengthens, and bytes of a closing seal.
-const SEAL_LENGTH: u32 = 32;
+pub const SEAL_LENGTH: u32 = 32;
 
 // An index entry: the record's offset in the file and the picture's length. `zeros` is the entry's field that is always zero.
 pub struct Entry {

@@ -108,17 +108,17 @@ module _ (f : Bytes) (h : length f ≤ 65536) where
   front-listing e = sym (simp (le-ltb 65536 (length f) h, e))
 
 -- head and shots touch
-pub front-put : (f : Bytes) (h : Header) → h ≡ headerIn f → (o o₁ o₂ : Bytes) (i r : ℕ) → 4800 ≤ length o → h .kept ≤ 60
-    → i ≡ length (headLines (h .«burst_number») (h .taken) (h .kept) (h .dropped)) → o₁ ≡ putBytes o 0 (headLines (h .«burst_number») (h .taken) (h .kept) (h .dropped))
-    → r ≡ i + length (shotLines (entriesAt (h .kept) (h .index) f)) → o₂ ≡ putBytes o₁ i (shotLines (entriesAt (h .kept) (h .index) f))
+pub front-put : (f : Bytes) (h : Header) → h ≡ headerIn f → (o o₁ o₂ : Bytes) (i r : ℕ) → 4800 ≤ length o → h .kept .0 ≤ 60
+    → i ≡ length (headLines (h .«burst_number») (h .taken .0) (h .kept .0) (h .dropped)) → o₁ ≡ putBytes o 0 (headLines (h .«burst_number») (h .taken .0) (h .kept .0) (h .dropped))
+    → r ≡ i + length (shotLines (entriesAt (h .kept .0) (h .index) f)) → o₂ ≡ putBytes o₁ i (shotLines (entriesAt (h .kept .0) (h .index) f))
     → (r ≡ length (frontLines f)) × (o₂ ≡ putBytes o 0 (frontLines f))
 unfolding frontLines
 front-put f h eh o o₁ o₂ i r ho hk ei e₁ er e₂ =
-    let A : Bytes = headLines (h .«burst_number») (h .taken) (h .kept) (h .dropped) in
-    let a = head-length (h .«burst_number») (h .taken) (h .kept) (h .dropped) in
-    let s = shots-length (h .kept) (h .index) f in
-    let p = put-then o o₁ o₂ A (shotLines (entriesAt (h .kept) (h .index) f)) 0 i r (omega (arith, a, s)) (record { index = ei ∙ sym (zero-add _); bytes = e₁ }) (record { index = er; bytes = e₂ }) in
-    let e = ap (λ (h : Header). headLines (h .«burst_number») (h .taken) (h .kept) (h .dropped) ++ shotLines (entriesAt (h .kept) (h .index) f)) eh in
+    let A : Bytes = headLines (h .«burst_number») (h .taken .0) (h .kept .0) (h .dropped) in
+    let a = head-length (h .«burst_number») (h .taken .0) (h .kept .0) (h .dropped) in
+    let s = shots-length (h .kept .0) (h .index) f in
+    let p = put-then o o₁ o₂ A (shotLines (entriesAt (h .kept .0) (h .index) f)) 0 i r (omega (arith, a, s)) (record { index = ei ∙ sym (zero-add _); bytes = e₁ }) (record { index = er; bytes = e₂ }) in
+    let e = ap (λ (h : Header). headLines (h .«burst_number») (h .taken .0) (h .kept .0) (h .dropped) ++ shotLines (entriesAt (h .kept .0) (h .index) f)) eh in
     (p .index ∙ zero-add _ ∙ ap length e, p .bytes ∙ ap (putBytes o 0) e)
 
 -- ---- the call's answer

@@ -1,4 +1,5 @@
 // The text that the lister prints for a file (01, "Afterwards"): no key, front rules only.
+use burst::ENTRY_LENGTH;
 use icepole::OUTPUT_TOO_SHORT;
 ghost use mathlib.Core.Path.{_≡_};
 ghost use mathlib.Core.List.{_++_};
@@ -98,7 +99,7 @@ fn put_shots(f: &[u8], count: usize, start: usize, out: &mut [u8], from: usize) 
         let e = reader::entry_at(f, position);
         let next = put_shot(out, at, e.shot.0 as u64, e.offset as u64, e.length as u64);
         at = next;
-        position = position + 12;
+        position = position + ENTRY_LENGTH;
         left = left - 1;
     }
     at
@@ -121,11 +122,11 @@ fn put_listing(f: &[u8], out: &mut [u8]) -> usize
     let from = put_head(
         out,
         h.burst_number,
-        h.taken as u64,
-        kept as u64,
+        h.taken.0 as u64,
+        kept.0 as u64,
         h.dropped as u64,
     );
-    put_shots(f, kept as usize, index as usize, out, from)
+    put_shots(f, kept.0 as usize, index as usize, out, from)
 }
 
 // The listing of a file.

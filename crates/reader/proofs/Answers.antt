@@ -68,10 +68,10 @@ module _ (key f : Bytes) where
           check-zero = simp (eq-eqb (length key) 16 hk, hf, all-records, hr)
 
           pub check-0 : (h : Header) → h ≡ headerIn f → (site : Bytes) → site ≡ secretIn key f (closingPart f)
-              → record { refusal = 0; mark = 0; «burst_number» = h .«burst_number»; «site_mark» = site; taken = h .taken; kept = h .kept; dropped = h .dropped } ≡ checkAnswer key f
+              → record { refusal = 0; mark = 0; «burst_number» = h .«burst_number»; «site_mark» = site; taken = h .taken .0; kept = h .kept .0; dropped = h .dropped } ≡ checkAnswer key f
           unfolding checkAnswer checkMark
           check-0 h e site s =
-              ap₂ (λ (x : Header) (y : Bytes). let z : Checked = record { refusal = 0; mark = 0; «burst_number» = x .«burst_number»; «site_mark» = y; taken = x .taken; kept = x .kept; dropped = x .dropped } in z) e s
+              ap₂ (λ (x : Header) (y : Bytes). let z : Checked = record { refusal = 0; mark = 0; «burst_number» = x .«burst_number»; «site_mark» = y; taken = x .taken .0; kept = x .kept .0; dropped = x .dropped } in z) e s
               ∙ sym (simp check-zero)
 
 -- what check answers, field by field

@@ -89,19 +89,19 @@ module _ (key f : Bytes) (position : ℕ) (e : Entry) (is : e ≡ entryAt f posi
       ∙ ap (λ (x : Entry). messageOf (sizes Icepole128) key (nonceOf (burstNumberIn f) (x .shot .0)) (take 12 (drop position f)) (take (x .length + 32) (drop (x .offset) f))) is
 
 module _ (key f : Bytes) (h : Header) (is : h ≡ headerIn f) (nonce a b : Bytes) (at : ℕ)
-    (en : nonce ≡ nonceOf (h .«burst_number») 0) (ea : a ≡ take 32 f) (eb : b ≡ take (12 * h .kept) (drop (h .index) f)) (eo : at ≡ h .index + 12 * h .kept) where
+    (en : nonce ≡ nonceOf (h .«burst_number») 0) (ea : a ≡ take 32 f) (eb : b ≡ take (12 * h .kept .0) (drop (h .index) f)) (eo : at ≡ h .index + 12 * h .kept .0) where
   pub closing-tag : tagAgrees (sizes Icepole128) key nonce (a ++ b) (take (0 + 32) (drop at f)) ≡ agrees key f (closingPart f)
   unfolding agrees
   closing-tag =
       ap₂ (λ (n : Bytes) (i : ℕ). tagAgrees (sizes Icepole128) key n (a ++ b) (take (0 + 32) (drop i f))) en eo
-      ∙ ap₂ (λ (x y : Bytes). tagAgrees (sizes Icepole128) key (nonceOf (h .«burst_number») 0) (x ++ y) (take (0 + 32) (drop (h .index + 12 * h .kept) f))) ea eb
-      ∙ ap (λ (x : Header). tagAgrees (sizes Icepole128) key (nonceOf (x .«burst_number») 0) (take 32 f ++ take (12 * x .kept) (drop (x .index) f)) (take (0 + 32) (drop (x .index + 12 * x .kept) f))) is
+      ∙ ap₂ (λ (x y : Bytes). tagAgrees (sizes Icepole128) key (nonceOf (h .«burst_number») 0) (x ++ y) (take (0 + 32) (drop (h .index + 12 * h .kept .0) f))) ea eb
+      ∙ ap (λ (x : Header). tagAgrees (sizes Icepole128) key (nonceOf (x .«burst_number») 0) (take 32 f ++ take (12 * x .kept .0) (drop (x .index) f)) (take (0 + 32) (drop (x .index + 12 * x .kept .0) f))) is
 
   pub closing-secret : secretOf (sizes Icepole128) key nonce (take (0 + 32) (drop at f)) ≡ secretIn key f (closingPart f)
   unfolding secretIn
   closing-secret =
       ap₂ (λ (n : Bytes) (i : ℕ). secretOf (sizes Icepole128) key n (take (0 + 32) (drop i f))) en eo
-      ∙ ap (λ (x : Header). secretOf (sizes Icepole128) key (nonceOf (x .«burst_number») 0) (take (0 + 32) (drop (x .index + 12 * x .kept) f))) is
+      ∙ ap (λ (x : Header). secretOf (sizes Icepole128) key (nonceOf (x .«burst_number») 0) (take (0 + 32) (drop (x .index + 12 * x .kept .0) f))) is
 
 -- ---- what the answer to verifying tells of the tag
 module _ (b : Bool) (count : ℕ) (s : Bytes) (r : Opened) (is : r ≡ openedAnswer (pick b 0 7) count s) where

@@ -118,9 +118,9 @@ in-range f (suc n) position last offset taken end (suc j) h g =
 pub record Reads (f : Bytes) (h : Header) : Type 0 where
   pub edition : h .edition ≡ 1
   pub pictures : h .pictures ≡ 32
-  pub most : h .taken ≤ 60
-  pub counts : h .taken ≡ h .kept + h .dropped
-  pub closing : h .closing ≡ h .index + 12 * h .kept
+  pub most : h .taken .0 ≤ 60
+  pub counts : h .taken .0 ≡ h .kept .0 + h .dropped
+  pub closing : h .closing ≡ h .index + 12 * h .kept .0
   pub total : h .total ≡ h .closing + 32
   pub size : h .total ≡ length f
 
@@ -130,10 +130,10 @@ module _ (f : Bytes) (h : Header) (e : h ≡ headerIn f) where
       subst (λ (x : Header). Reads f x) (sym e)
       (record { edition = w .edition; pictures = w .pictures; most = w .most; counts = w .counts; closing = w .closing; total = w .total; size = w .size })
 
-  pub reads-is : 64 ≤ length f → Reads f h → indexRules 0 32 (h .taken) (h .index) (entriesAt (h .kept) (h .index) f) ≡ frontRules edition1 f
+  pub reads-is : 64 ≤ length f → Reads f h → indexRules 0 32 (h .taken .0) (h .index) (entriesAt (h .kept .0) (h .index) f) ≡ frontRules edition1 f
   reads-is l w =
       let w′ : Reads f (headerIn f) = subst (λ (x : Header). Reads f x) e w in
-      ap (λ (x : Header). indexRules 0 32 (x .taken) (x .index) (entriesAt (x .kept) (x .index) f)) e
+      ap (λ (x : Header). indexRules 0 32 (x .taken .0) (x .index) (entriesAt (x .kept .0) (x .index) f)) e
       ∙ front-is f l (w′ .edition) (w′ .pictures) (w′ .most) (w′ .counts) (w′ .closing) (w′ .total) (w′ .size)
 
 -- the entry of a place

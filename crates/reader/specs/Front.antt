@@ -44,8 +44,8 @@ totalIn f = leAt 4 f 28
 abbrev pub headerIn : Bytes → Header
 headerIn f = record {
   edition = editionIn f;
-  taken = takenIn f;
-  kept = keptIn f;
+  taken = record { 0 = takenIn f };
+  kept = record { 0 = keptIn f };
   dropped = droppedIn f;
   «burst_number» = burstNumberIn f;
   pictures = pictureOffsetIn f;

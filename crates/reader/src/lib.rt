@@ -1,11 +1,13 @@
 // The reader of bursts (01, "Reader"): check, fetch by place, and the sealed record of a place.
 use burst::EDITION;
+use burst::ENTRY_LENGTH;
 use burst::Entry;
 use burst::FRONT_BROKEN;
 use burst::HEADER_LENGTH;
 use burst::MAX_SHOTS;
 use burst::NO_SUCH_PLACE;
 use burst::Place;
+use burst::SEAL_LENGTH;
 use burst::Shot;
 use icepole::KEY_LENGTH;
 use icepole::OUTPUT_TOO_SHORT;
@@ -56,6 +58,9 @@ pub struct Fetched {
     pub length: u32,
 }
 
+// Header and closing seal: the shortest file.
+const MIN_LENGTH: usize = 64;
+
 // Whether the tags of some records agree, or the first shot whose tag differs.
 enum Verdict {
     Agree,
@@ -93,9 +98,9 @@ fn index_ok(f: &[u8], count: usize, start: usize, taken: u16, end: u32) -> bool
         if !burst::entry_ok(Shot(last), offset, Shot(taken), e) {
             return false;
         }
-        offset = offset + e.length + 32;
+        offset = offset + e.length + SEAL_LENGTH;
         last = e.shot.0;
-        position = position + 12;
+        position = position + ENTRY_LENGTH;
         left = left - 1;
     }
     offset == end
@@ -104,8 +109,8 @@ fn index_ok(f: &[u8], count: usize, start: usize, taken: u16, end: u32) -> bool
 // The header's numbers.
 pub struct Header {
     pub edition: u16,
-    pub taken: u16,
-    pub kept: u16,
+    pub taken: Shot,
+    pub kept: Place,
     pub dropped: u16,
     pub burst_number: u64,
     pub pictures: u32,
@@ -129,8 +134,8 @@ pub fn header_in(f: &[u8]) -> Header
     let total = bytes_le::load_le(f, 28, 4);
     Header {
         edition: edition as u16,
-        taken: taken as u16,
-        kept: kept as u16,
+        taken: Shot(taken as u16),
+        kept: Place(kept as u16),
         dropped: dropped as u16,
         burst_number,
         pictures: pictures as u32,
@@ -144,7 +149,7 @@ pub fn header_in(f: &[u8]) -> Header
 pub fn front_ok(f: &[u8]) -> bool
     ensures { λ b. ⌜ b ≡ frontRules edition1 (now (f .entry)) ⌝ }
 {
-    if f.len() < 64 {
+    if f.len() < MIN_LENGTH {
         return false;
     }
     let h = header_in(f);
@@ -154,25 +159,25 @@ pub fn front_ok(f: &[u8]) -> bool
     if h.pictures != HEADER_LENGTH {
         return false;
     }
-    if h.taken > MAX_SHOTS {
+    if h.taken.0 > MAX_SHOTS {
         return false;
     }
-    let kept = h.kept as usize;
-    if h.taken as usize != kept + h.dropped as usize {
+    let kept = h.kept.0 as usize;
+    if h.taken.0 as usize != kept + h.dropped as usize {
         return false;
     }
     let index = h.index as usize;
     let closing = h.closing as usize;
-    if closing != index + 12 * kept {
+    if closing != index + burst::index_length(h.kept) {
         return false;
     }
-    if h.total as usize != closing + 32 {
+    if h.total as usize != closing + SEAL_LENGTH as usize {
         return false;
     }
     if h.total as usize != f.len() {
         return false;
     }
-    index_ok(f, kept, index, h.taken, h.index)
+    index_ok(f, kept, index, h.taken.0, h.index)
 }
 
 // Verifies the sealed part of count + 32 bytes that stands at an offset of the file; answers its secret number, not its message.
@@ -209,7 +214,7 @@ fn record_agrees(key: &[u8], f: &[u8], burst_number: u64, position: usize) -> bo
     ensures { λ b. ⌜ b ≡ agrees (now (key .entry)) (now (f .entry)) (recordPart (now (f .entry)) position) ⌝ }
 {
     let e = entry_at(f, position);
-    let next = position + 12;
+    let next = position + ENTRY_LENGTH;
     let nonce = burst::nonce_of(burst_number, e.shot);
     let none: [u8; 0] = [];
     let got = verify_part(
@@ -237,7 +242,7 @@ fn verify_records(key: &[u8], f: &[u8], burst_number: u64, count: usize, start: 
             let shot = e.shot;
             return Verdict::Differs(shot);
         }
-        position = position + 12;
+        position = position + ENTRY_LENGTH;
         left = left - 1;
     }
     Verdict::Agree
@@ -282,7 +287,7 @@ pub fn check(key: &[u8], f: &[u8]) -> Checked
     if closing.refusal != 0 {
         return not_checked(TAG_DIFFERS, 0);
     }
-    let verdict = verify_records(key, f, h.burst_number, h.kept as usize, h.index as usize);
+    let verdict = verify_records(key, f, h.burst_number, h.kept.0 as usize, h.index as usize);
     match verdict {
         Verdict::Differs(shot) => not_checked(TAG_DIFFERS, shot.0 as u32),
         Verdict::Agree => {
@@ -292,8 +297,8 @@ pub fn check(key: &[u8], f: &[u8]) -> Checked
                 mark: 0,
                 burst_number: h.burst_number,
                 site_mark,
-                taken: h.taken,
-                kept: h.kept,
+                taken: h.taken.0,
+                kept: h.kept.0,
                 dropped: h.dropped,
             }
         }
@@ -359,7 +364,7 @@ fn open_record(
 {
     let shot = e.shot;
     let nonce = burst::nonce_of(burst_number, shot);
-    let next = position + 12;
+    let next = position + ENTRY_LENGTH;
     let at = e.offset as usize;
     let end = at + (e.length as usize + 32);
     let none: [u8; 0] = [];

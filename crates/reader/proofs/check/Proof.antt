@@ -39,14 +39,14 @@ returns-3 c =
 verify-records-requires : tie.Need-verify-records-requires
 verify-records-requires c κs =
     let e = c .before .before .before .before .before .header-in .ensures in
-    (omega (arith, c .before .before .before .before .before .before .before .before .if1), sym (c .before .before .before .before .before .before .before .front-ok .ensures) ∙ not-false _ (c .before .before .before .before .before .before .if2 .left), ap (λ (x : Header). x .«burst_number») e, ap (λ (x : Header). x .kept) e, ap (λ (x : Header). x .index) e)
+    (omega (arith, c .before .before .before .before .before .before .before .before .if1), sym (c .before .before .before .before .before .before .before .front-ok .ensures) ∙ not-false _ (c .before .before .before .before .before .before .if2 .left), ap (λ (x : Header). x .«burst_number») e, ap (λ (x : Header). x .kept .0) e, ap (λ (x : Header). x .index) e)
 
 returns-4 : tie.Need-returns-4
 returns-4 c =
     let key = c .before .before .before .before .before .before .before .before .before .before .before .before .before .before .before .before .before .args .key .now in
     let f = c .before .before .before .before .before .before .before .before .before .before .before .before .before .before .before .before .before .args .f .now in
     let e = c .before .before .before .before .before .before .before .before .before .before .before .header-in .ensures in
-    let v = c .before .before .before .before .before .verify-records .ensures ∙ ap (λ (x : Header). firstDiffering key f (recordParts (x .kept) (x .index) f)) e in
+    let v = c .before .before .before .before .before .verify-records .ensures ∙ ap (λ (x : Header). firstDiffering key f (recordParts (x .kept .0) (x .index) f)) e in
     c .not-checked4 .ensures
     ∙ check-record key f (omega (arith, c .before .before .before .before .before .before .before .before .before .before .before .before .before .before .if1)) (sym (c .before .before .before .before .before .before .before .before .before .before .before .before .before .front-ok .ensures) ∙ not-false _ (c .before .before .before .before .before .before .before .before .before .before .before .before .if2 .left)) (tag-stands _ _ _ _ (c .before .before .before .before .before .before .before .before .before .before .verify-closing .ensures) (c .before .before .before .before .before .before .before .before .if3 .left)) _
     (sym v ∙ ap differingOf (c .before .before .before .verdict .given .1))
@@ -58,7 +58,7 @@ returns-5 c =
     let e = c .before .before .before .before .before .before .before .before .before .header-in .ensures in
     let hk : length key ≡ 16 = omega (arith, c .before .before .before .before .before .before .before .before .before .before .before .before .if1) in
     let hf = sym (c .before .before .before .before .before .before .before .before .before .before .before .front-ok .ensures) ∙ not-false _ (c .before .before .before .before .before .before .before .before .before .before .if2 .left) in
-    let v = c .before .before .before .verify-records .ensures ∙ ap (λ (x : Header). firstDiffering key f (recordParts (x .kept) (x .index) f)) e in
+    let v = c .before .before .before .verify-records .ensures ∙ ap (λ (x : Header). firstDiffering key f (recordParts (x .kept .0) (x .index) f)) e in
     check-0 key f hk hf (tag-stands _ _ _ _ (c .before .before .before .before .before .before .before .before .verify-closing .ensures) (c .before .before .before .before .before .before .if3 .left)) (sym v ∙ ap differingOf (c .before .enum-told .given .1)) _ e _
     (secret-is (agrees key f (closingPart f)) 0 (secretIn key f (closingPart f)) (c .before .before .before .before .before .before .before .before .verify-closing .result) (c .before .before .before .before .before .before .before .before .verify-closing .ensures) (c .before .before .before .before .before .before .if3 .left) (length-closing-secret key f (front f hf)))
 

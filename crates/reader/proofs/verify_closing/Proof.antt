@@ -45,7 +45,7 @@ returns c =
     let f = c .before .before .before .before .before .before .before .before .before .args .f .now in
     let h = c .before .before .before .before .before .before .before .before .before .args .h in
     let g = reads f h (c .before .before .before .before .before .before .before .before .before .pre .2) (front f (c .before .before .before .before .before .before .before .before .before .pre .1)) in
-    let q : h .closing - h .index ≡ 12 * h .kept = omega (arith, g) in
+    let q : h .closing - h .index ≡ 12 * h .kept .0 = omega (arith, g) in
     let eb = ap (λ (n : ℕ). take n (drop (h .index) f)) q in
     c .verify-part .ensures
     ∙ ap₂ (λ (b : Bool) (s : Bytes). openedAnswer (pick b 0 7) 0 s)
