@@ -25,7 +25,7 @@ use Rattle.burst.proofs.Puts.{length-header}
 use Rattle.burst.proofs.Sealer.{agrees128, secret128}
 use Rattle.reader.specs.declared.Checked.{Checked}
 use Rattle.reader.specs.declared.Fetched.{Fetched}
-use Rattle.reader.specs.Front.{headerIn, keptIn, burstNumberIn, indexOffsetIn, entryAt, entriesAt, positionOf, frontRules}
+use Rattle.reader.specs.Front.{headerIn, takenIn, keptIn, burstNumberIn, indexOffsetIn, entryAt, entriesAt, positionOf, frontRules}
 use Rattle.reader.specs.Reader.{closingPart, recordPart, recordParts, agrees, secretIn, messageIn, firstDiffering, checkNumber, checkMark, checkAnswer, recordNumber, recordOffset, recordBytesIn, notChecked, notFetched, fetchNumber, fetchAnswer, fetchOutput}
 use Rattle.reader.proofs.Rules.{front-is}
 use Rattle.reader.proofs.Answers.{check-not, check-zero, check-0, Found, found, record-zero, record-refused, record-done, fetch-0, fetch-not, fetch-refused}
@@ -105,13 +105,10 @@ module _ (p : Plain) (valid : Valid (p .shots)) (most : length (p .shots) ≤ 60
       (h .taken ∙ pictures-gaps xs ∙ sym (ap₂ (λ (i j : ℕ). i + j) (h .kept) (h .dropped)))
       (h .closing ∙ sym (ap₂ (λ (i j : ℕ). i + 12 * j) (h .index) (h .kept)))
       (h .total ∙ ap (λ (i : ℕ). i + 32) (sym (h .closing))) (h .total ∙ sym lf))
-      ∙ ap₂ (λ (i k : ℕ). indexRules 0 32 (leTaken) i (entriesAt k i f)) (h .index) (h .kept)
+      ∙ ap₂ (λ (i k : ℕ). indexRules 0 32 (takenIn f) i (entriesAt k i f)) (h .index) (h .kept)
       ∙ ap (λ (t : ℕ). indexRules 0 32 t u (entriesAt (pictures xs) u f)) (h .taken)
       ∙ ap (indexRules 0 32 (length xs) u) (entries-read f (p .key) (length xs) u most (let c = bound in omega arith) xs 1 32 u cl valid (omega arith) refl indexed)
       ∙ sound-entries xs 1 32 0 (length xs) u valid (omega arith) (omega arith) refl
-    where
-      leTaken : ℕ
-      leTaken = headerIn f .taken
 
   closing-opens : (agrees (p .key) f (closingPart f) ≡ true) × (secretIn (p .key) f (closingPart f) ≡ p .identity .siteMark)
   unfolding agrees secretIn closingSeal

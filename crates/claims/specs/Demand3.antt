@@ -166,7 +166,7 @@ pub record Withheld (key f : Bytes) (place : ℕ) (out : Bytes) : Type 0 where
   pub fetch : (fetchAnswer key f place out .refusal ≡ 0 → ⊥)
       → (fetchOutput key f place out ≡ out)
       × (fetchAnswer key f place out ≡ notFetched (fetchAnswer key f place out .refusal) (checkAnswer key f .mark))
-  -- where check refuses, it answers zeros, and fetch and record answer its number and mark
+  -- where check refuses, it answers zeros, fetch answers its number and mark, and record its number; record's mark is check's by its contract
   pub check : (checkAnswer key f .refusal ≡ 0 → ⊥)
       → (checkAnswer key f ≡ notChecked (checkAnswer key f .refusal) (checkAnswer key f .mark))
       × (fetchAnswer key f place out ≡ notFetched (checkAnswer key f .refusal) (checkAnswer key f .mark))

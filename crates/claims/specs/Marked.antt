@@ -1,10 +1,10 @@
--- The marked values of document 01, its example of burst 7 and its table of refusals by example, as one table: what the definitions give, and what the document says. `proofs/Marked.antt` shows that the two sides agree.
+-- The marked values of document 01, its example of burst 7 with what the lister prints for it, and its refusals by example (but 13, which takes an accepted file), as one table: what the definitions give, and what the document says. `proofs/Marked.antt` shows that the two sides agree.
 -- Assumes nothing.
 use mathlib.Core.Path.{_≡_}
 use mathlib.Core.Bool.{true, false}
 use mathlib.Core.List.{List, [], _∷_, _++_, map}
 use Prim.Native.Nat.{ℕ, _^_}
-use lib.ListN.{replicate, drop}
+use lib.ListN.{replicate, drop, set}
 use Rattle.bits.specs.Bits.{bit, number}
 use Rattle.bytes_le.specs.Bytes.{Bytes}
 use Rattle.permutation.specs.State.{Grid, State, setWord, state}
@@ -17,6 +17,10 @@ use Rattle.icepole.specs.Answers.{sealNumber, openNumber}
 use Rattle.burst.specs.Layout.{edition1, nonceOf, closingOffset}
 use Rattle.burst.specs.Numbers.{beginNumber, keepNumber, dropNumber}
 use Rattle.burst.specs.Plain.{pictures, Plain, byValue, inPlace, keepShot, dropShot, closeBurst, CallList, Answer, usedOf, totalOf, headerOf, indexOf, plainOf, plainAnswers}
+use Rattle.reader.specs.Reader.{checkNumber}
+use Rattle.strips.specs.Answers.{stripNumber, endNumber}
+use Rattle.listing.specs.Text.{ascii}
+use Rattle.listing.specs.Listing.{listing}
 
 -- the state with S[x][y] = w and zeros elsewhere
 abbrev pub only : ℕ → ℕ → ℕ → State
@@ -83,6 +87,21 @@ header7 =
     ∷ 0x4F ∷ 0x00 ∷ 0x00 ∷ 0x00 ∷ 0x6F ∷ 0x00 ∷ 0x00 ∷ 0x00
     ∷ []
 
+-- the front of burst 7 with zeros for its seals, which the lister does not look at; and with kept 61
+abbrev front7 : ℕ → Bytes
+front7 kept =
+    set (headerOf edition1 burst7) 4 kept ++ (replicate 35 0 ++ (indexOf edition1 burst7 ++ replicate 32 0))
+
+-- strip after end, an end after it, a count above the maximum; then the largest sum, and one byte more
+abbrev pub stripRefusals : List ℕ
+stripRefusals =
+    stripNumber true 3 3 3
+    ∷ endNumber true 3 16
+    ∷ stripNumber false 67108865 0 0
+    ∷ stripNumber false 67108863 1 1
+    ∷ stripNumber false 67108864 1 1
+    ∷ []
+
 pub record Row : Type 0 where
   pub given : Grid
   pub said : Grid
@@ -116,6 +135,9 @@ marked =
     ∷ ((nonceOf 7 2 ∷ []) is ((0x07 ∷ 0x00 ∷ 0x00 ∷ 0x00 ∷ 0x00 ∷ 0x00 ∷ 0x00 ∷ 0x00 ∷ 0x02 ∷ 0x00 ∷ 0x00 ∷ 0x00 ∷ 0x00 ∷ 0x00 ∷ 0x00 ∷ 0x00 ∷ []) ∷ []))
     ∷ (drop 60 (answers list60) is ((0 ∷ 0 ∷ 60 ∷ []) ∷ (9 ∷ 0 ∷ 0 ∷ []) ∷ (0 ∷ 0 ∷ 64 ∷ []) ∷ (8 ∷ 0 ∷ 0 ∷ []) ∷ []))
     ∷ ((refusals ∷ []) is ((1 ∷ 2 ∷ 3 ∷ 4 ∷ 5 ∷ 6 ∷ 7 ∷ 8 ∷ 9 ∷ 10 ∷ 11 ∷ 0 ∷ 11 ∷ 10 ∷ []) ∷ []))
+    ∷ (the (checkNumber (replicate 16 0) (front7 61)) is the 12)
+    ∷ ((stripRefusals ∷ []) is ((14 ∷ 14 ∷ 14 ∷ 0 ∷ 4 ∷ []) ∷ []))
+    ∷ ((listing (front7 1) ∷ listing (front7 61) ∷ []) is (ascii "burst 7\ntaken 3 kept 1 dropped 2\nshot 2 at 32 length 3\n" ∷ ascii "front 12\n" ∷ []))
     ∷ []
 
 -- every row's two sides agree
