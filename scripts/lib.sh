@@ -21,5 +21,5 @@ rt staticlib icepole_c
 rt staticlib burst_c
 rm -rf $folder
 mkdir -p $folder
-gather icepole "ICEPOLE-128, 128a and 256a: authenticated encryption of whole messages"
+gather icepole "ICEPOLE-128, 128a and 256a: authenticated encryption of whole messages and of strips"
 gather burst "Burst files of trail cameras: recording, checking and reading back"

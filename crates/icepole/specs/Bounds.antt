@@ -1,4 +1,4 @@
--- The sizes that private functions are proved for; no public contract and no claim names this file. Those of the three variants are among them (`proofs/Bounds.antt`).
+-- The sizes that internal functions are proved for; no contract of a public call and no claim names this file. Those of the three variants are among them (`proofs/Bounds.antt`).
 -- Assumes nothing.
 use mathlib.Core.Path.{_≡_}
 use Prim.Native.Nat.{_≤_, _<_, _%_}

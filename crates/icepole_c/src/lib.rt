@@ -1,4 +1,4 @@
-// The calls of the camera's main firmware, which is in C: one pair for each variant. Each returns the refusal number, 0 when done. include/icepole.h declares them.
+// The calls of the camera's main firmware, which is in C: sealing and opening, one pair for each variant, and strips of 128. Each returns the refusal number, 0 when done. include/icepole.h declares them.
 use icepole::OUTPUT_TOO_SHORT;
 use icepole::Variant;
 use strips::STRIP_STATE;
