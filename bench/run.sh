@@ -22,6 +22,7 @@ main="gcc -std=c11 -D_POSIX_C_SOURCE=200809L -Wall -Wextra -Werror -O2"
 lib=target/staticlib
 $main bench/p6.c build/permutation.o $lib/libpermutation_bench.a -o build/p6
 $main bench/sealing.c build/icepole_plain.o build/icepole_shaped.o $lib/libicepole_c.a $lib/libicepole_bench.a -o build/sealing
+$main bench/strips.c $lib/libicepole_c.a -o build/strips
 $main bench/burst.c $lib/libburst_c.a $lib/libicepole_c.a -o build/burst
 
 # What callgrind counts: instructions, the same in every run.
@@ -66,6 +67,7 @@ machine() {
 
 build/p6 >build/p6.md
 build/sealing >build/sealing.md
+build/strips >build/strips.md
 build/burst largest >build/largest.md
 build/burst growth >build/growth.md
 awk -f bench/plot.awk build/growth.md >build/benchmarks.svg
@@ -79,6 +81,8 @@ counted >build/counted.md
     cat build/sealing.md
     printf '\n### Against OpenSSL\n\n'
     cat build/openssl.md
+    printf '\n### Strips\n\n'
+    cat build/strips.md
     printf '\n### The largest file\n\n'
     cat build/largest.md
     printf '\n### How cost grows\n\n![Two plots: time a byte by size of picture, and time of a burst by number of pictures](benchmarks.svg)\n\n'

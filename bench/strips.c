@@ -1,0 +1,50 @@
+/* Times a message of 1 MiB sealed in strips against the same sealed whole, both proved, turn about in one run. */
+#include <stdint.h>
+#include <string.h>
+#include "../include/icepole.h"
+#include "timing.h"
+
+enum { MOST = 1 << 20, RUNS = 61 };
+
+static uint8_t key[16], nonce[16], secret[16], ad[12], message[MOST], whole[MOST + 32], output[MOST + 32];
+static uint8_t state[ICEPOLE128_STRIP_STATE_BYTES];
+
+static uint32_t seal(void)
+{
+    return icepole128_seal(key, 16, nonce, 16, secret, 16, ad, 12, ad, 0, message, MOST, whole, MOST + 32);
+}
+
+/* Strips of so many bytes; the last one has what is left. */
+static uint32_t seal_strips(size_t strip)
+{
+    uint32_t refusal = icepole128_start(key, 16, nonce, 16, secret, 16, ad, 12, ad, 0, output, 16, state, sizeof state);
+    for (size_t at = 0; at < MOST; at += strip) {
+        size_t n = MOST - at < strip ? MOST - at : strip;
+        refusal |= icepole128_strip(state, sizeof state, message + at, n, output + 16 + at, n);
+    }
+    return refusal | icepole128_end(state, sizeof state, output + 16 + MOST, 16);
+}
+
+int main(void)
+{
+    static const size_t strips[] = {64, 128, 1000, 4096, 65536, MOST};
+    static double turn[RUNS];
+    for (size_t i = 0; i < MOST; i++)
+        message[i] = (uint8_t)(i * 7 + (i >> 8));
+    printf("| bytes a strip | 1 MiB in strips / whole |\n|---|---|\n");
+    for (size_t s = 0; s < sizeof strips / sizeof *strips; s++) {
+        if (seal() || seal_strips(strips[s]) || memcmp(output, whole, sizeof whole)) {
+            fprintf(stderr, "strips of %zu bytes and whole sealing differ\n", strips[s]);
+            return 1;
+        }
+        for (int i = 0; i < RUNS; i++) {
+            double from = now();
+            seal_strips(strips[s]);
+            double between = now();
+            seal();
+            turn[i] = (between - from) / (now() - between);
+        }
+        printf("| %zu | %.3f |\n", strips[s], median(turn, RUNS));
+    }
+    return 0;
+}
