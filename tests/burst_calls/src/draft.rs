@@ -50,6 +50,22 @@ pub fn draft(taken: u16, kept: &[(u16, u32)]) -> Draft {
     draft
 }
 
+/// Shot 1 of 5 bytes and shot 3 of 7 bytes, of 3 taken.
+pub fn base() -> Draft {
+    draft(3, &[(1, 5), (3, 7)])
+}
+
+/// The base with a change; the change lays out again where it must.
+pub fn changed(change: impl Fn(&mut Draft)) -> Draft {
+    let mut draft = base();
+    change(&mut draft);
+    draft
+}
+
+fn put(file: &mut [u8], at: usize, bytes: &[u8]) {
+    file[at..at + bytes.len()].copy_from_slice(bytes);
+}
+
 impl Draft {
     /// The records touch, from `start` on; index and closing seal follow.
     pub fn lay_out(&mut self, start: u32) {
@@ -77,25 +93,36 @@ impl Draft {
         self.length = self.header.total as usize;
     }
 
+    fn index(&self) -> Vec<u8> {
+        self.entries.iter().flat_map(Entry::to_bytes).collect()
+    }
+
+    fn put_front(&self, file: &mut [u8]) {
+        put(file, 0, &self.header.to_bytes());
+        put(file, self.index_at, &self.index());
+    }
+
     /// The bytes, every seal worked out from the front as it is.
     pub fn file(&self) -> Vec<u8> {
         let mut file = vec![0; self.length];
-        let mut write = |at: usize, bytes: &[u8]| {
-            file[at..at + bytes.len()].copy_from_slice(bytes);
-        };
         let burst = self.header.burst_number;
         for (entry, (at, length)) in self.entries.iter().zip(&self.records) {
             let picture = bytes(entry.shot as usize, *length);
             let ad: [&[u8]; 2] = [&entry.to_bytes(), &[]];
             let sealed = seal_shot(&KEY, burst, entry.shot, &[9; 16], ad, &picture);
-            write(*at, &sealed);
+            put(&mut file, *at, &sealed);
         }
-        let header = self.header.to_bytes();
-        let index: Vec<u8> = self.entries.iter().flat_map(Entry::to_bytes).collect();
-        let closing = seal_shot(&KEY, burst, 0, &SITE_MARK, [&header, &index], &[]);
-        write(0, &header);
-        write(self.index_at, &index);
-        write(self.closing_at, &closing);
+        self.put_front(&mut file);
+        let ad: [&[u8]; 2] = [&self.header.to_bytes(), &self.index()];
+        let closing = seal_shot(&KEY, burst, 0, &SITE_MARK, ad, &[]);
+        put(&mut file, self.closing_at, &closing);
+        file
+    }
+
+    /// The bytes with zeros for the seals, which serve where no tag is tested.
+    pub fn unsealed(&self) -> Vec<u8> {
+        let mut file = vec![0; self.length];
+        self.put_front(&mut file);
         file
     }
 }

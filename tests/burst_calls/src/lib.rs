@@ -3,6 +3,8 @@
 pub mod draft;
 pub mod lent;
 pub mod list;
+pub mod listing;
+pub mod page;
 pub mod random_front;
 pub mod random_list;
 pub mod random_read;
@@ -60,6 +62,14 @@ extern "C" {
         mark: *mut u32,
         offset: *mut u32,
         size: *mut u32,
+    ) -> u32;
+
+    fn burst_list(
+        file: *const u8,
+        file_len: usize,
+        text: *mut u8,
+        text_len: usize,
+        length: *mut u32,
     ) -> u32;
 }
 
@@ -152,4 +162,12 @@ pub fn record(key: &[u8], file: &[u8], place: u16) -> RecordPart {
         offset: offset.after() as usize,
         length: size.after() as usize,
     }
+}
+
+/// Number, and the length of the text, of listing a file.
+pub fn list_front(file: &[u8], text: &mut [u8]) -> (u32, u32) {
+    let mut length = LentNumber::default();
+    let (text, text_len) = (text.as_mut_ptr(), text.len());
+    let number = unsafe { burst_list(file.as_ptr(), file.len(), text, text_len, length.pointer()) };
+    (number, length.after())
 }

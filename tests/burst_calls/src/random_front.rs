@@ -3,6 +3,7 @@
 
 use crate::draft::{draft, Draft};
 use crate::list::KEY;
+use crate::listing::{check_list, LIST_BYTES};
 use crate::reading::{check_check, check_fetch, check_record, CHECK_INFO, FETCH_INFO};
 use reference::random::SplitMix64;
 
@@ -58,13 +59,19 @@ fn change(generator: &mut SplitMix64, draft: &mut Draft) {
     }
 }
 
-/// Check, fetch and record of the file do what the reference does. Gives their
-/// numbers.
-pub fn front_call(generator: &mut SplitMix64, what: &dyn Fn() -> String) -> [u32; 3] {
+/// A few shots, with up to three fields changed.
+pub fn random_front(generator: &mut SplitMix64) -> Draft {
     let mut draft = random_draft(generator);
     for _ in 0..generator.below(4) {
         change(generator, &mut draft);
     }
+    draft
+}
+
+/// Check, fetch, record and list of the file do what the reference does. Gives
+/// their numbers.
+pub fn front_call(generator: &mut SplitMix64, what: &dyn Fn() -> String) -> [u32; 4] {
+    let draft = random_front(generator);
     let file = draft.file();
     let place = generator.below(7) as u16;
     let lengths = (generator.below(40), FETCH_INFO);
@@ -72,5 +79,6 @@ pub fn front_call(generator: &mut SplitMix64, what: &dyn Fn() -> String) -> [u32
     let checked = check_check(&KEY, &file, CHECK_INFO, &what);
     let fetched = check_fetch(&KEY, &file, place, lengths, &what);
     let recorded = check_record(&KEY, &file, place, &what);
-    [checked.0, fetched.0, recorded.0]
+    let listed = check_list(&file, LIST_BYTES, &what);
+    [checked.0, fetched.0, recorded.0, listed]
 }

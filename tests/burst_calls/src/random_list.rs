@@ -2,6 +2,7 @@
 //! bytes, for burst_replay.
 
 use crate::list::ROOM;
+use crate::listing::{check_list, LIST_BYTES};
 use crate::reading::{check_gives_back, check_reference_gives_back};
 use crate::recording::{Performed, Recording};
 use crate::script::push_call;
@@ -206,12 +207,14 @@ pub fn recording_of_any_bytes(generator: &mut SplitMix64) -> Recording {
     }
 }
 
-/// One list against the reference; its file, if there is one, is read by both.
+/// One list against the reference; its file, if there is one, is read and
+/// listed by both.
 pub fn check_recording(recording: &Recording, what: &dyn Fn() -> String) -> Performed {
     let performed = recording.check(what);
     if let (Some(file), Some(plain)) = (performed.file(), &performed.plain) {
         check_gives_back(&plain.burst, file, what);
         check_reference_gives_back(&plain.burst, file, what);
+        check_list(file, LIST_BYTES, what);
     }
     performed
 }

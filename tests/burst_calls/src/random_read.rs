@@ -1,6 +1,8 @@
-//! One random read of a file that may be damaged, by check, fetch and record.
+//! One random read of a file that may be damaged, by check, fetch, record and
+//! list.
 
 use crate::list::{bytes, file_of, KEY};
+use crate::listing::{check_list, LIST_BYTES};
 use crate::reading::{check_check, check_fetch, check_record, CHECK_INFO, FETCH_INFO};
 use reference::random::SplitMix64;
 
@@ -76,9 +78,9 @@ fn random_place(generator: &mut SplitMix64) -> u16 {
     }
 }
 
-/// Check, fetch and record of one file do what the reference does. Gives their
-/// numbers.
-pub fn read_call(generator: &mut SplitMix64, what: &dyn Fn() -> String) -> [u32; 3] {
+/// Check, fetch, record and list of one file do what the reference does. Gives
+/// their numbers.
+pub fn read_call(generator: &mut SplitMix64, what: &dyn Fn() -> String) -> [u32; 4] {
     let count = generator.below(7);
     let lengths: Vec<usize> = (0..count).map(|_| random_length(generator)).collect();
     let mut file = file_of(generator.below(3) as u64, &lengths);
@@ -98,5 +100,6 @@ pub fn read_call(generator: &mut SplitMix64, what: &dyn Fn() -> String) -> [u32;
     let checked = check_check(&key, &file, info, &what);
     let fetched = check_fetch(&key, &file, place, (out_len, info_len), &what);
     let recorded = check_record(&key, &file, place, &what);
-    [checked.0, fetched.0, recorded.0]
+    let listed = check_list(&file, around(generator, LIST_BYTES), &what);
+    [checked.0, fetched.0, recorded.0, listed]
 }

@@ -1,18 +1,8 @@
 //! The proved recorder writes the worked file of docs/FORMAT.md, and the
 //! proved reader reads it.
 
+use burst_calls::page::worked_file;
 use burst_calls::{check, fetch, replay};
-
-/// The bytes of the page's worked file; what follows a semicolon is a comment.
-fn worked_file() -> Vec<u8> {
-    let page = include_str!("../../../docs/FORMAT.md");
-    let from = page.split("```hex file\n").nth(1).expect("the block");
-    let text = from.split("```").next().expect("its end");
-    text.lines()
-        .flat_map(|line| line.split(';').next().unwrap().split_whitespace())
-        .map(|pair| u8::from_str_radix(pair, 16).unwrap())
-        .collect()
-}
 
 fn counting(from: u8, length: u8) -> Vec<u8> {
     (0..length).map(|i| from + i).collect()

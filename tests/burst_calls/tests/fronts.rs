@@ -2,25 +2,13 @@
 //! are right: a reader without that rule would not answer 12. And headers whose
 //! sums agree only in 16 or in 32 bits.
 
-use burst_calls::draft::{draft, Draft};
+use burst_calls::draft::{base, changed, draft, Draft};
 use burst_calls::list::KEY;
 use burst_calls::reading::{check_check, check_fetch, check_record, check_refused, CHECK_INFO};
 use reference::burst::lister::list;
 use reference::burst::reader::{front, Front};
 use reference::burst::{Entry, Header};
 use reference::random::SplitMix64;
-
-/// Shot 1 of 5 bytes and shot 3 of 7 bytes, of 3 taken.
-fn base() -> Draft {
-    draft(3, &[(1, 5), (3, 7)])
-}
-
-/// The base with a change; the change lays out again where it must.
-fn changed(change: impl Fn(&mut Draft)) -> Draft {
-    let mut draft = base();
-    change(&mut draft);
-    draft
-}
 
 /// The calls and the reference refuse with 12, and its lister does.
 fn assert_12(file: &[u8], what: &str) {

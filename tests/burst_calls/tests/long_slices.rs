@@ -3,8 +3,10 @@
 //! touched; only their front is.
 
 use burst_calls::list::{bytes, file_of, shots_of, KEY, SITE_MARK};
+use burst_calls::listing::{check_text, LIST_BYTES, TOO_LONG};
 use burst_calls::reading::{CHECK_INFO, FETCH_INFO};
 use burst_calls::script::script_of;
+use reference::burst::lister::list;
 use reference::burst::reader::RecordPart;
 
 /// 2 to the 32nd.
@@ -114,7 +116,8 @@ fn scripts(long: &mut [u8]) {
     assert_eq!(answered[60..], [(0, 60), (9, 0), (9, 0), (9, 0), (9, 0)]);
 }
 
-/// A file that is longer than its total by 2 to the 32nd breaks a front rule.
+/// A file that is longer than its total by 2 to the 32nd breaks a front rule,
+/// and is too long to be listed.
 fn files(long: &mut [u8]) {
     let example = file_of(7, &[0, 3, 0]);
     for extra in [0, 1] {
@@ -126,10 +129,11 @@ fn files(long: &mut [u8]) {
         assert_eq!((out, info), ([5; 3], [5; CHECK_INFO]));
         let part = burst_calls::record(&KEY, file, 0);
         assert_eq!((part.number, part.offset, part.length), (12, 0, 0));
+        check_text(file, LIST_BYTES, TOO_LONG, &|| format!("{extra} more"));
     }
 }
 
-/// Output and info of 2 to the 32nd bytes, or one more, are long enough.
+/// Output, info and text of 2 to the 32nd bytes, or one more, are long enough.
 fn outputs_and_infos(long: &mut [u8]) {
     let file = file_of(7, &[0, 3, 0]);
     let picture = bytes(1, 3);
@@ -153,5 +157,10 @@ fn outputs_and_infos(long: &mut [u8]) {
         let info = &mut with_front(long, &[9; 100])[..FAR + more];
         assert_eq!(burst_calls::check(&KEY, &file, info), (0, 0));
         assert_eq!(info[24..31], [3, 0, 1, 0, 2, 0, 9]);
+
+        let text = &mut with_front(long, &[9; 100])[..FAR + more];
+        assert_eq!(burst_calls::list_front(&file, text), (0, 55));
+        assert_eq!(text[..55], *list(&file).as_bytes());
+        assert_eq!(text[55..100], [9; 45]);
     }
 }

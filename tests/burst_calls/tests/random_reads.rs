@@ -1,5 +1,5 @@
-//! Many random calls of check, fetch and record, good and bad, against the
-//! reference.
+//! Many random calls of check, fetch, record and list, good and bad, against
+//! the reference.
 
 use std::collections::BTreeSet;
 
@@ -12,7 +12,7 @@ const SEED: u64 = 0x4EAD_5000_0000;
 
 #[test]
 fn random_calls() {
-    let mut seen = [(); 3].map(|_| BTreeSet::new());
+    let mut seen = [(); 4].map(|_| BTreeSet::new());
     for round in 0..ROUNDS {
         let seed = SEED + round;
         let what = || format!("round {round}, seed {seed:#x}");
@@ -24,4 +24,5 @@ fn random_calls() {
     assert_eq!(seen[0], BTreeSet::from([0, 1, 5, 7, 12]));
     assert_eq!(seen[1], BTreeSet::from([0, 1, 5, 7, 12, 13]));
     assert_eq!(seen[2], BTreeSet::from([0, 1, 7, 12, 13]));
+    assert_eq!(seen[3], BTreeSet::from([0, 5, 12]));
 }

@@ -87,7 +87,7 @@ pub fn try_case(seed: u64, tally: &mut Tally) {
         20..23 => read_call(generator, &what),
         _ => front_call(generator, &what),
     };
-    for (call, number) in ["check", "fetch", "record"].into_iter().zip(read) {
+    for (call, number) in ["check", "fetch", "record", "list"].into_iter().zip(read) {
         tally.add(call, number);
     }
 }

@@ -7,8 +7,8 @@ use soak::{run, try_case};
 
 /// Every number of every call but 4, which takes data of 67,108,865 bytes where
 /// no strip state counts them, and close's 11, which no list can meet that has
-/// one buffer.
-const EXPECTED: [(&str, &[u32]); 12] = [
+/// one buffer. List's 12 is the text `front 12`.
+const EXPECTED: [(&str, &[u32]); 13] = [
     ("begin", &[0, 1, 3, 11]),
     ("check", &[0, 1, 5, 7, 12]),
     ("close", &[0, 8]),
@@ -16,6 +16,7 @@ const EXPECTED: [(&str, &[u32]); 12] = [
     ("end", &[0, 5, 14]),
     ("fetch", &[0, 1, 5, 7, 12, 13]),
     ("keep", &[0, 3, 8, 9, 10, 11]),
+    ("list", &[0, 5, 12]),
     ("open", &[0, 1, 2, 5, 6, 7]),
     ("record", &[0, 1, 7, 12, 13]),
     ("seal", &[0, 1, 2, 3, 5]),

@@ -1,0 +1,252 @@
+//! burst_list ("Afterwards": the lister) against texts written down here, and
+//! against the reference on many files, right and damaged.
+
+use std::collections::BTreeSet;
+
+use burst_calls::draft::{base, draft, Draft};
+use burst_calls::list::file_of;
+use burst_calls::listing::{check_list, check_text, BROKEN, LIST_BYTES, TOO_LONG};
+use burst_calls::page::worked_file;
+use burst_calls::random_front::random_front;
+use reference::random::SplitMix64;
+
+/// The text of the worked file.
+const EXAMPLE: &str = "burst 7\ntaken 3 kept 1 dropped 2\nshot 2 at 32 length 3\n";
+
+/// burst_list gives this text into an output of the shortest length.
+fn assert_text(file: &[u8], expected: &str, what: &str) {
+    check_text(file, LIST_BYTES, expected, &|| what.into());
+}
+
+/// Shots 1, 2, 3 and so on with pictures of these lengths, none dropped.
+fn all_kept(lengths: &[u32]) -> Draft {
+    let kept: Vec<(u16, u32)> = (1..).zip(lengths.iter().copied()).collect();
+    draft(kept.len() as u16, &kept)
+}
+
+#[test]
+fn example() {
+    assert_text(&worked_file(), EXAMPLE, "the worked file");
+    assert_text(&file_of(7, &[0, 3, 0]), EXAMPLE, "another key");
+    let unsealed = base().unsealed();
+    let burst = 0x0123_4567_89AB_CDEFu64;
+    let text = format!(
+        "burst {burst}\ntaken 3 kept 2 dropped 1\nshot 1 at 32 length 5\nshot 3 at 69 length 7\n"
+    );
+    assert_text(&unsealed, &text, "no seal is right");
+}
+
+#[test]
+fn bursts_without_pictures() {
+    for (taken, text) in [
+        (0, "burst 5\ntaken 0 kept 0 dropped 0\n"),
+        (1, "burst 5\ntaken 1 kept 0 dropped 1\n"),
+        (60, "burst 5\ntaken 60 kept 0 dropped 60\n"),
+    ] {
+        assert_text(&file_of(5, &vec![0; taken]), text, "all dropped");
+    }
+}
+
+#[test]
+fn burst_numbers() {
+    let mut numbers = vec![0, 1 << 63, (1 << 63) - 1, u64::MAX, u64::MAX - 1];
+    // 9, 10, 99, 100 and so on: each count of digits, at both ends.
+    for digits in 0..20 {
+        let power = 10u64.pow(digits);
+        numbers.extend([power - 1, power, power + 1, 9 * (power / 10)]);
+    }
+    let text = |number: &str| format!("burst {number}\ntaken 0 kept 0 dropped 0\n");
+    for number in numbers {
+        let mut empty = draft(0, &[]);
+        empty.header.burst_number = number;
+        assert_text(&empty.unsealed(), &text(&number.to_string()), "number");
+    }
+    assert_text(&file_of(1 << 63, &[]), &text("9223372036854775808"), "2^63");
+    let most = text("18446744073709551615");
+    assert_text(&file_of(u64::MAX, &[]), &most, "2^64 - 1");
+}
+
+/// Lengths and offsets around each power of ten up to 10,000.
+#[test]
+fn every_count_of_digits() {
+    for (power, last) in [(100, 9), (1_000, 10), (10_000, 11)] {
+        for number in [power - 1, power, power + 1] {
+            let mut file = all_kept(&[number - 64, number, last]);
+            file.header.burst_number = 1;
+            let (first, third) = (number - 64, 2 * number + 32);
+            let text = format!(
+                "burst 1\ntaken 3 kept 3 dropped 0\nshot 1 at 32 length {first}\n\
+                 shot 2 at {number} length {number}\nshot 3 at {third} length {last}\n"
+            );
+            assert_text(&file.unsealed(), &text, "digits");
+        }
+    }
+}
+
+/// 60 lines, and a burst number of 20 digits.
+#[test]
+fn sixty_long_lines() {
+    let mut file = all_kept(&[1_001; 60]);
+    file.header.burst_number = u64::MAX;
+    let mut text = format!("burst {}\ntaken 60 kept 60 dropped 0\n", u64::MAX);
+    for place in 0..60 {
+        let (shot, offset) = (place + 1, 32 + 1_033 * place);
+        text += &format!("shot {shot} at {offset} length 1001\n");
+    }
+    assert_eq!(file.length, 62_764);
+    assert_text(&file.unsealed(), &text, "60 shots");
+}
+
+/// The text needs less, but 4,800 bytes are asked for.
+#[test]
+fn room_for_the_text() {
+    let long = all_kept(&[70_000]).unsealed();
+    let broken = base().unsealed()[1..].to_vec();
+    for (file, text) in [
+        (worked_file(), EXAMPLE),
+        (broken, BROKEN),
+        (vec![], BROKEN),
+        (long, TOO_LONG),
+    ] {
+        // Below 4,800 all are refused with 5.
+        for room in [0, 1, 9, 55, 56, 109, 4_096, 4_798, 4_799] {
+            check_text(&file, room, text, &|| "refused".into());
+        }
+        for room in [4_800, 4_801, 5_000, 65_536, 70_336] {
+            check_text(&file, room, text, &|| "later bytes".into());
+        }
+    }
+    let mut text = [0; 4_799];
+    let refused = burst_calls::list_front(&worked_file(), &mut text);
+    assert_eq!((refused, text), ((5, 0), [0; 4_799]));
+}
+
+/// 65,536 bytes are listed, more are not; a broken front comes after that.
+#[test]
+fn longest_file() {
+    let longest = all_kept(&[65_428]).unsealed();
+    assert_eq!(longest.len(), 65_536);
+    let line = "shot 1 at 32 length 65428\n";
+    let head = format!(
+        "burst {}\ntaken 1 kept 1 dropped 0\n",
+        0x0123_4567_89AB_CDEFu64
+    );
+    assert_text(&longest, &(head + line), "65,536 bytes");
+    for length in [65_429, 65_430, 131_072, 1_048_576] {
+        let long = all_kept(&[length]).unsealed();
+        assert_text(&long, TOO_LONG, "a right front");
+    }
+    assert_text(&[&longest[..], &[0]].concat(), TOO_LONG, "a byte more");
+    assert_text(&[0; 65_536], BROKEN, "zeros");
+    for length in [65_537, 65_600, 131_072, 131_072 + 111, 1 << 24] {
+        let mut long = worked_file();
+        long.resize(length, 0);
+        assert_text(&long, TOO_LONG, "zeros after the worked file");
+    }
+}
+
+/// Each byte of header and index with every value. The front stays right with
+/// another burst number, and with some other shot numbers.
+#[test]
+fn every_value_of_every_front_byte() {
+    for (right, still_right) in [
+        (draft(0, &[]), 0),
+        (draft(3, &[(2, 3)]), 2),
+        (base(), 2),
+        (draft(9, &[(2, 5), (4, 7), (5, 1)]), 2 + 1 + 4),
+    ] {
+        let mut file = right.unsealed();
+        let mut accepted = 0;
+        for at in (0..32).chain(right.index_at..right.closing_at) {
+            let byte = file[at];
+            for value in (0..=255).filter(|value| *value != byte) {
+                file[at] = value;
+                let what = || format!("{:?}, byte {at} value {value}", right.entries);
+                let listed = check_list(&file, LIST_BYTES, &what);
+                let is_burst_number = (8..16).contains(&at);
+                assert!(listed == 0 || !is_burst_number, "{}", what());
+                accepted += usize::from(listed == 0 && !is_burst_number);
+            }
+            file[at] = byte;
+        }
+        assert_eq!(accepted, still_right, "{:?}", right.entries);
+    }
+}
+
+/// No byte of a record or of the closing seal matters.
+#[test]
+fn seals_do_not_matter() {
+    let right = worked_file();
+    for at in (32..67).chain(79..111) {
+        let mut file = right.clone();
+        file[at] ^= 0xFF;
+        assert_text(&file, EXAMPLE, "a seal");
+    }
+}
+
+/// Random right lists of 0 to 60 shots.
+#[test]
+fn random_right_lists() {
+    const SEED: u64 = 0x1157_0000_0000;
+    for round in 0..5_000 {
+        let generator = &mut SplitMix64::new(SEED + round);
+        let taken = generator.below(61) as u16;
+        let dropped_in_ten = generator.below(11);
+        let mut kept = Vec::new();
+        for shot in 1..=taken {
+            if generator.below(10) >= dropped_in_ten {
+                kept.push((shot, 1 + generator.below(300) as u32));
+            }
+        }
+        let mut right = draft(taken, &kept);
+        right.header.burst_number = generator.next_word() >> generator.below(64);
+        let what = || format!("seed {:#x}", SEED + round);
+        let room = LIST_BYTES + generator.below(3);
+        assert_eq!(check_list(&right.unsealed(), room, &what), 0, "{}", what());
+    }
+}
+
+/// Fronts with up to three fields changed.
+#[test]
+fn random_fronts() {
+    const SEED: u64 = 0x1157_F000_0000;
+    let mut counts = [0; 2];
+    for round in 0..50_000 {
+        let generator = &mut SplitMix64::new(SEED + round);
+        let front = random_front(generator);
+        let what = || format!("seed {:#x}, {:?}", SEED + round, front.header);
+        match check_list(&front.unsealed(), LIST_BYTES, &what) {
+            0 => counts[0] += 1,
+            12 => counts[1] += 1,
+            number => panic!("{number}, {}", what()),
+        }
+    }
+    assert!(counts.iter().all(|count| *count > 10_000), "{counts:?}");
+}
+
+/// Bytes of any kind, and right files cut and continued by them, of 0 to 200
+/// bytes.
+#[test]
+fn random_bytes() {
+    const SEED: u64 = 0x1157_B000_0000;
+    let right = worked_file();
+    let mut seen = BTreeSet::new();
+    for length in 0..=200 {
+        for round in 0..50 {
+            let seed = SEED + 1_000 * length as u64 + round;
+            let generator = &mut SplitMix64::new(seed);
+            let mut file = generator.next_bytes(length);
+            let what = || format!("seed {seed:#x}");
+            assert_eq!(check_list(&file, LIST_BYTES, &what), 12, "{}", what());
+            let front = generator.below(length.min(right.len()) + 1);
+            file[..front].copy_from_slice(&right[..front]);
+            seen.insert(check_list(&file, LIST_BYTES, &what));
+            // The whole front, and a seal of any bytes.
+            if length == right.len() {
+                file[..79].copy_from_slice(&right[..79]);
+                assert_text(&file, EXAMPLE, &what());
+            }
+        }
+    }
+    assert_eq!(seen, BTreeSet::from([0, 12]));
+}

@@ -1,0 +1,4 @@
+//! The program `lister`, and its stored inputs and outputs.
+
+pub mod program;
+pub mod stored;
