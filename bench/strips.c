@@ -27,7 +27,7 @@ static uint32_t seal_strips(size_t strip)
 
 int main(void)
 {
-    static const size_t strips[] = {64, 128, 1000, 4096, 65536, MOST};
+    static const size_t strips[] = {1, 16, 64, 128, 1000, 4096, 65536, MOST};
     static double turn[RUNS];
     for (size_t i = 0; i < MOST; i++)
         message[i] = (uint8_t)(i * 7 + (i >> 8));

@@ -1,5 +1,5 @@
 /*
- * Burst files of trail cameras: recording, checking and reading back.
+ * Burst files of trail cameras: recording, checking, reading back and listing.
  *
  * The functions are written in Rattle and proved to meet their contracts (crates/burst_c). Link libburst_c.a, which `make lib`
  * leaves beside this header in build/lib.

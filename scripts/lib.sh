@@ -22,4 +22,4 @@ rt staticlib burst_c
 rm -rf $folder
 mkdir -p $folder
 gather icepole "ICEPOLE-128, 128a and 256a: authenticated encryption of whole messages and of strips"
-gather burst "Burst files of trail cameras: recording, checking and reading back"
+gather burst "Burst files of trail cameras: recording, checking, reading back and listing"

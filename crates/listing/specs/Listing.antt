@@ -47,7 +47,7 @@ listing f =
     pick (ltb maxListed (length f)) (ascii "front too long\n")
     (pick (frontRules edition1 f) (frontLines f) (ascii "front 12\n"))
 
--- ---- the call: 5 where the output has less room than every text needs
+-- ---- the call: 5 where the output has less than this room, which is enough for every text
 abbrev pub textRoom : ℕ
 textRoom = 4800
 

@@ -8,8 +8,8 @@ use Prim.Native.Nat.{ℕ, zero, suc, _+_, _≤_}
 use native.Mathlib.Omega.{arith}
 use borrow.Author.Tests.{eq-eqb, ne-eqb}
 use lib.Dec.{eqb}
-use lib.ListN.{length, take, length-append}
-use lib.Seq.{length-take-le, take-at}
+use lib.ListN.{length, take, drop, length-append}
+use lib.Seq.{drop-append-add, drop-at, length-take-le, take-at}
 use Rattle.bytes_le.specs.Bytes.{Bytes, putBytes}
 use Rattle.bytes_le.proofs.Laws.{take-put}
 use Rattle.state_bytes.proofs.Lengths.{length-permuted}
@@ -24,19 +24,15 @@ use Rattle.strips.specs.declared.StripState.{StripState}
 use Rattle.strips.specs.declared.StripAnswer.{StripAnswer}
 use Rattle.strips.specs.Machine.{Held, held, ended, fed, fedBytes, fillOf, finish}
 use Rattle.strips.specs.Answers.{afterEnd, afterStrip, answered, endAnswer, endNumber, endOutput, endRefusal, heldIn, notStarted, startAnswer, startNumber, startOutput, startRefusal, started, stripAnswer, stripNumber, stripOutput, stripRefusal}
-use Rattle.strips.specs.Lists.{AllDone, Call, StripList, Piece, PlainMessage, StripLists, Told, accepted, afterCall, afterCalls, answerTo, countOf, cut, endOf, joined, numberOf, outputOf, plainAnswer, plainFrom, plainOf, plainStart, plainTold, runTold, runWritten, sealing, startNumberOf, startTo, stripOf, toldBy, toldFrom, writtenFrom}
+use Rattle.strips.specs.Lists.{AllDone, Call, StripList, Piece, PlainMessage, StripLists, Told, accepted, afterCall, afterCalls, answerTo, countOf, cut, endOf, joined, lentTo, numberOf, outputOf, outputsFrom, partOf, plainAnswer, plainFrom, plainOf, plainOutputs, plainOutputsFrom, plainStart, plainTold, runOutputs, runTold, runWritten, sealing, startNumberOf, startTo, stripOf, toldBy, toldFrom, writtenFrom}
 use Rattle.strips.proofs.Machine.{bytes-join, fed-fill, fed-join, length-fed, whole-bytes, whole-tag}
-use Rattle.strips.proofs.Numbers.{StartFits, end-0, end-14, over, start-accepted, start-fits, strip-0, strip-14, strip-fits, takes}
+use Rattle.strips.proofs.Numbers.{StartFits, end-0, end-14, end-open, over, start-accepted, start-fits, strip-0, strip-14, strip-fits, takes}
 
 -- where the number is not 0
 turned : {A : Type 0} (n : ℕ) (a b : A) → pick (eqb (suc n) 0) a b ≡ b
 turned n a b = rw (ne-eqb (suc n) 0 (λ z. omega arith)) refl
 
 -- ---- one call, whatever it is
-abbrev lent : Call → Bytes
-lent (stripOf m o) = o
-lent (endOf o) = o
-
 abbrev afterState : StripState → Call → StripState
 afterState s (stripOf m o) = afterStrip s m o
 afterState s (endOf o) = afterEnd s o
@@ -54,7 +50,7 @@ unfolding answerTo stripAnswer stripRefusal endAnswer endRefusal numberBy countO
 answer-is s (stripOf m o) = refl
 answer-is s (endOf o) = refl
 
-output-is : (s : StripState) (c : Call) → outputOf s c ≡ unless (numberBy s c) (lent c) (putBytes (lent c) 0 (bytesBy s c))
+output-is : (s : StripState) (c : Call) → outputOf s c ≡ unless (numberBy s c) (lentTo c) (putBytes (lentTo c) 0 (bytesBy s c))
 unfolding outputOf stripOutput stripRefusal endOutput endRefusal numberBy
 output-is s (stripOf m o) = refl
 output-is s (endOf o) = refl
@@ -99,13 +95,28 @@ module _ (u : Bytes) (s : StripState) (p : PlainMessage) (g : Rel u s p) where
     unfolding afterCall
     done-plain = ap (λ (n : ℕ). pick (eqb n 0) (accepted p c) p) e
 
-    done-output : outputOf s c ≡ putBytes (lent c) 0 (bytesBy s c)
-    done-output = output-is s c ∙ ap (λ (n : ℕ). unless n (lent c) (putBytes (lent c) 0 (bytesBy s c))) (same-number c ∙ e)
+    done-output : outputOf s c ≡ putBytes (lentTo c) 0 (bytesBy s c)
+    done-output = output-is s c ∙ ap (λ (n : ℕ). unless n (lentTo c) (putBytes (lentTo c) 0 (bytesBy s c))) (same-number c ∙ e)
 
   -- an accepted strip finds the message open
   open-strip : (m o : Bytes) → numberOf p (stripOf m o) ≡ 0 → p .finished ≡ false
   unfolding numberOf
   open-strip m o e = strip-fits (p .finished) (length (p .message)) (length m) (length o) e .open′
+
+  open-end : (o : Bytes) → numberOf p (endOf o) ≡ 0 → p .finished ≡ false
+  unfolding numberOf
+  open-end o e = end-open (p .finished) (length (p .message)) (length o) e
+
+  -- the output, from what an accepted call puts
+  output-by : (c : Call) (seal : Bytes → Bytes) → (numberOf p c ≡ 0 → bytesBy s c ≡ partOf seal p c)
+      → outputOf s c ≡ unless (numberOf p c) (lentTo c) (putBytes (lentTo c) 0 (partOf seal p c))
+  output-by c seal part = output-is s c ∙ ap (λ (n : ℕ). unless n (lentTo c) (putBytes (lentTo c) 0 (bytesBy s c))) (same-number c) ∙ by (numberOf p c) refl
+    where
+      by : (n : ℕ) → numberOf p c ≡ n → unless (numberOf p c) (lentTo c) (putBytes (lentTo c) 0 (bytesBy s c)) ≡ unless (numberOf p c) (lentTo c) (putBytes (lentTo c) 0 (partOf seal p c))
+      by zero e = ap (λ (b : Bytes). unless (numberOf p c) (lentTo c) (putBytes (lentTo c) 0 b)) (part e)
+      by (suc n) e =
+          ap (λ (i : ℕ). unless i (lentTo c) (putBytes (lentTo c) 0 (bytesBy s c))) e ∙ turned n (putBytes (lentTo c) 0 (bytesBy s c)) (lentTo c)
+          ∙ sym (ap (λ (i : ℕ). unless i (lentTo c) (putBytes (lentTo c) 0 (partOf seal p c))) e ∙ turned n (putBytes (lentTo c) 0 (partOf seal p c)) (lentTo c))
 
   rel-strip : (m o : Bytes) → numberOf p (stripOf m o) ≡ 0 → Rel u (afterStrip s m o) (accepted p (stripOf m o))
   unfolding accepted
@@ -169,6 +180,16 @@ module _ (u : Bytes) where
         ap (λ (p : PlainMessage). afterCalls p cs) (refused-plain u s p g c 13 e) ∙ i .1,
       )
 
+  outputs-closed : (cs : List Call) (s : StripState) (p : PlainMessage) → Rel u s p → (seal : Bytes → Bytes) → p .finished ≡ true
+      → outputsFrom s cs ≡ plainOutputsFrom seal p cs
+  outputs-closed [] s p g seal h = refl
+  outputs-closed (c ∷ cs) s p g seal h =
+      let e = finished-number p c h in
+      ap₂ (λ (b : Bytes) (bs : List Bytes). b ∷ bs) (output-by u s p g c seal (λ (z : numberOf p c ≡ 0). absurd (omega (arith, e, z))))
+      (ap (λ (t : StripState). outputsFrom t cs) (refused-state u s p g c 13 e)
+      ∙ outputs-closed cs s p g seal h
+      ∙ ap (λ (q : PlainMessage). plainOutputsFrom seal q cs) (sym (refused-plain u s p g c 13 e)))
+
   -- the ciphertext of a message, and its tag
   E : Bytes → Bytes
   E m = fedBytes 128 (held u 0) m
@@ -185,7 +206,7 @@ module _ (u : Bytes) where
       → take (answerTo s c .count) (outputOf s c) ≡ bytesBy s c
   front s p g c e l =
       ap₂ take (done-count u s p g c e ∙ sym l) (done-output u s p g c e)
-      ∙ take-put (lent c) 0 (bytesBy s c) (length (bytesBy s c)) (omega arith) (omega arith)
+      ∙ take-put (lentTo c) 0 (bytesBy s c) (length (bytesBy s c)) (omega arith) (omega arith)
 
   ended-length : (s : StripState) → length (ended (heldIn s)) ≡ 16
   ended-length s =
@@ -272,18 +293,6 @@ module _ (l : StripList) where
       ap₂ (λ (t : Told) (ts : List Told). t ∷ ts) (ap toldBy (start-is (startNumberOf l) refl))
       (told-from u (l .calls) (startTo l .state) (plainStart l) rel-start)
 
-  list-nothing : (startNumberOf l ≡ 0 → ⊥) → runWritten l ≡ []
-  unfolding runWritten
-  list-nothing h = by (startNumberOf l) refl
-    where
-      by : (n : ℕ) → startNumberOf l ≡ n → runWritten l ≡ []
-      by zero e = absurd (h e)
-      by (suc n) e =
-          let f : plainStart l .finished ≡ true = ap (λ (n : ℕ). pick (eqb n 0) false true) e ∙ turned n false true in
-          ap (λ (n : ℕ). take n (startOutput (l .key) (l .nonce) (l .secret) (l .associated) (l .out)) ++ writtenFrom (startTo l .state) (l .calls))
-          (ap (λ (a : StripAnswer). a .count) (start-is (suc n) e) ∙ turned n 16 0)
-          ∙ closed u (l .calls) (startTo l .state) (plainStart l) rel-start f .0
-
   -- ---- what was written, and the sealed message
   hu : length u ≡ 160
   hu = length-ready (sizes Icepole128) (omega arith) (omega arith) (omega arith) (keyed (l .key) (l .nonce)) (l .secret) (l .associated)
@@ -329,6 +338,57 @@ module _ (l : StripList) where
         let f : plainStart l .finished ≡ false = ap (λ (n : ℕ). pick (eqb n 0) false true) e in
         ap₂ (λ (a b : Bytes). a ++ b) start-front (going u (l .calls) (startTo l .state) (plainStart l) rel-start f)
         ∙ upto-is (afterCalls (plainStart l) (l .calls))
+
+    -- ---- each call's part
+    after-secret : (m rest : Bytes) (n : ℕ) → E u m ++ T u m ≡ rest → drop (16 + n) (sealing l m) ≡ drop n rest
+    after-secret m rest n er =
+        ap (drop (16 + n)) (sealing-is m)
+        ∙ ap (λ (k : ℕ). drop (k + n) (sealedSecret ++ (E u m ++ T u m))) (sym length-secret)
+        ∙ drop-append-add sealedSecret (E u m ++ T u m) n ∙ ap (drop n) er
+
+    part-is : (s : StripState) (p : PlainMessage) → Rel u s p → (c : Call) → numberOf p c ≡ 0 → bytesBy s c ≡ partOf (sealing l) p c
+    unfolding partOf E T
+    part-is s p g (stripOf m o) z =
+        let f : Bytes = fedBytes 128 (heldIn s) m in
+        let h = g .holds (open-strip u s p g m o z) in
+        let e₁ : E u (p .message ++ m) ≡ E u (p .message) ++ f =
+        bytes-join 128 (held u 0) (p .message) m ∙ ap (λ (k : Held). fedBytes 128 (held u 0) (p .message) ++ fedBytes 128 k m) (sym h) in
+        let t : Bytes = T u (p .message ++ m) in
+        let e₂ = ap (λ (b : Bytes). b ++ t) e₁ ∙ append-assoc (E u (p .message)) f t in
+        sym
+        (ap (take (length m))
+        (after-secret (p .message ++ m) (E u (p .message) ++ (f ++ t)) (length (p .message)) e₂
+        ∙ drop-at (E u (p .message)) (f ++ t) (length (p .message)) (length-fed 128 (held u 0) (p .message)))
+        ∙ take-at f t (length m) (length-fed 128 (heldIn s) m))
+    part-is s p g (endOf o) z =
+        ap ended (g .holds (open-end u s p g o z))
+        ∙ sym
+        (after-secret (p .message) (E u (p .message) ++ T u (p .message)) (length (p .message)) refl
+        ∙ drop-at (E u (p .message)) (T u (p .message)) (length (p .message)) (length-fed 128 (held u 0) (p .message)))
+
+    outputs-going : (cs : List Call) (s : StripState) (p : PlainMessage) → Rel u s p → outputsFrom s cs ≡ plainOutputsFrom (sealing l) p cs
+    outputs-going [] s p g = refl
+    outputs-going (c ∷ cs) s p g =
+        ap₂ (λ (b : Bytes) (bs : List Bytes). b ∷ bs) (output-by u s p g c (sealing l) (part-is s p g c))
+        (outputs-going cs (answerTo s c .state) (afterCall p c) (rel-next u s p g c))
+
+    first-part : sealedSecret ≡ take 16 (sealing l [])
+    first-part = sym (ap (take 16) (sealing-is []) ∙ take-at sealedSecret (E u [] ++ T u []) 16 length-secret)
+
+  list-outputs : runOutputs l ≡ plainOutputs l
+  unfolding runOutputs plainOutputs startOutput
+  list-outputs = by (startNumberOf l) refl
+    where
+      by : (n : ℕ) → startNumberOf l ≡ n → runOutputs l ≡ plainOutputs l
+      by zero e =
+          ap₂ (λ (b : Bytes) (bs : List Bytes). unless (startNumberOf l) (l .out) (putBytes (l .out) 0 b) ∷ bs) (first-part e)
+          (outputs-going e (l .calls) (startTo l .state) (plainStart l) rel-start)
+      by (suc n) e =
+          let f : plainStart l .finished ≡ true = ap (λ (n : ℕ). pick (eqb n 0) false true) e ∙ turned n false true in
+          ap₂ (λ (b : Bytes) (bs : List Bytes). b ∷ bs)
+          (ap (λ (i : ℕ). unless i (l .out) (putBytes (l .out) 0 sealedSecret)) e ∙ turned n (putBytes (l .out) 0 sealedSecret) (l .out)
+          ∙ sym (ap (λ (i : ℕ). unless i (l .out) (putBytes (l .out) 0 (take 16 (sealing l [])))) e ∙ turned n (putBytes (l .out) 0 (take 16 (sealing l []))) (l .out)))
+          (outputs-closed u (l .calls) (startTo l .state) (plainStart l) rel-start (sealing l) f)
 
 -- ---- a message cut into strips: each is accepted, and so is the end
 module _ (end : Bytes) (he : 16 ≤ length end) where
@@ -395,4 +455,4 @@ list-cut key nonce secret associated out end xs hk hn hs ha ho hm he = (subst Al
     whole e = ap (λ (p : PlainMessage). pick (p .finished) (sealing l (p .message)) (take (16 + length (p .message)) (sealing l (p .message)))) (after e)
 
 pub strip-lists : StripLists
-strip-lists = record { agrees = list-agrees; bytes = list-bytes; nothing = list-nothing; any-cut = list-cut }
+strip-lists = record { agrees = list-agrees; outputs = list-outputs; bytes = list-bytes; any-cut = list-cut }

@@ -126,6 +126,10 @@ pub end-room : (f : Bool) (c o : ℕ) → endNumber f c o ≡ 0 → 16 ≤ o
 unfolding endNumber
 end-room f c o e = ltb-false _ _ (passed (ltb o 16) _ _ (passed (f || ltb maxLength c) _ _ e .1) .0)
 
+pub end-open : (f : Bool) (c o : ℕ) → endNumber f c o ≡ 0 → f ≡ false
+unfolding endNumber
+end-open f c o e = neither f (ltb maxLength c) (passed (f || ltb maxLength c) _ _ e .0) .0
+
 pub record StartFits (q : Sizes) (k n s a o : ℕ) : Type 0 where
   pub key : k ≡ q .key
   pub nonce : n ≡ q .nonce

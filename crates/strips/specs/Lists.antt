@@ -1,7 +1,7 @@
 -- Lists of calls on one message (01, "Afterwards"): a start, then strips and ends in any order, refused ones among them. Each call is given the state that the call before returned.
 --   agrees    numbers and counts equal those of the plain message, which is worked out from the calls' arguments alone
---   bytes     what was written, joined, is the sealed message up to here, and the whole of it after an accepted end
---   nothing   after a start that was turned down nothing is written
+--   outputs   every output, whole: as it was where its call was turned down, else with its part of the sealed message at the front
+--   bytes     those parts, joined, are the sealed message up to here, and the whole of it after an accepted end
 --   any-cut   for every list of strips whose joining is the message, each call is accepted and the bytes equal whole sealing
 -- Assumes nothing.
 use mathlib.Core.Bool.{Bool, true, false}
@@ -9,12 +9,12 @@ use mathlib.Core.List.{List, [], _∷_, _++_}
 use mathlib.Core.Path.{_≡_}
 use Prim.Native.Nat.{ℕ, _+_, _≤_}
 use lib.Dec.{eqb}
-use lib.ListN.{length, take}
-use Rattle.bytes_le.specs.Bytes.{Bytes}
+use lib.ListN.{length, take, drop}
+use Rattle.bytes_le.specs.Bytes.{Bytes, putBytes}
 use Rattle.icepole.specs.declared.Variant.the-variants.{Icepole128}
 use Rattle.icepole.specs.Variants.{sizes}
 use Rattle.icepole.specs.Sealing.{pick, sealed}
-use Rattle.icepole.specs.Answers.{maxLength}
+use Rattle.icepole.specs.Answers.{maxLength, unless}
 use Rattle.strips.specs.declared.StripState.{StripState}
 use Rattle.strips.specs.declared.StripAnswer.{StripAnswer}
 use Rattle.strips.specs.Answers.{startAnswer, startOutput, stripAnswer, stripOutput, endAnswer, endOutput, startRefusal, stripNumber, endNumber}
@@ -56,6 +56,11 @@ abbrev pub toldFrom : StripState → List Call → List Told
 toldFrom s [] = []
 toldFrom s (c ∷ cs) = toldBy (answerTo s c) ∷ toldFrom (answerTo s c .state) cs
 
+-- the outputs after the calls
+abbrev pub outputsFrom : StripState → List Call → List Bytes
+outputsFrom s [] = []
+outputsFrom s (c ∷ cs) = outputOf s c ∷ outputsFrom (answerTo s c .state) cs
+
 -- the fronts of the outputs, joined: as many bytes of each as its call says it wrote
 abbrev pub writtenFrom : StripState → List Call → Bytes
 writtenFrom s [] = []
@@ -68,6 +73,9 @@ module _ (l : StripList) where
   -- of the whole list, start's first
   unfoldable pub runTold : List Told
   runTold = toldBy startTo ∷ toldFrom (startTo .state) (l .calls)
+
+  unfoldable pub runOutputs : List Bytes
+  runOutputs = startOutput (l .key) (l .nonce) (l .secret) (l .associated) (l .out) ∷ outputsFrom (startTo .state) (l .calls)
 
   unfoldable pub runWritten : Bytes
   runWritten = take (startTo .count) (startOutput (l .key) (l .nonce) (l .secret) (l .associated) (l .out)) ++ writtenFrom (startTo .state) (l .calls)
@@ -106,6 +114,20 @@ abbrev pub afterCalls : PlainMessage → List Call → PlainMessage
 afterCalls p [] = p
 afterCalls p (c ∷ cs) = afterCalls (afterCall p c) cs
 
+abbrev pub lentTo : Call → Bytes
+lentTo (stripOf m o) = o
+lentTo (endOf o) = o
+
+-- the part of the sealed message that an accepted call writes
+unfoldable pub partOf : (Bytes → Bytes) → PlainMessage → Call → Bytes
+partOf seal p (stripOf m o) = take (length m) (drop (16 + length (p .message)) (seal (p .message ++ m)))
+partOf seal p (endOf o) = drop (16 + length (p .message)) (seal (p .message))
+
+abbrev pub plainOutputsFrom : (Bytes → Bytes) → PlainMessage → List Call → List Bytes
+plainOutputsFrom seal p [] = []
+plainOutputsFrom seal p (c ∷ cs) =
+    unless (numberOf p c) (lentTo c) (putBytes (lentTo c) 0 (partOf seal p c)) ∷ plainOutputsFrom seal (afterCall p c) cs
+
 module _ (l : StripList) where
   abbrev pub startNumberOf : ℕ
   startNumberOf = startRefusal (l .key) (l .nonce) (l .secret) (l .associated) (l .out)
@@ -123,6 +145,10 @@ module _ (l : StripList) where
   -- whole sealing of a message under the list's key, nonce, secret number and associated data
   abbrev pub sealing : Bytes → Bytes
   sealing m = sealed (sizes Icepole128) (l .key) (l .nonce) (l .secret) (l .associated) m
+
+  unfoldable pub plainOutputs : List Bytes
+  plainOutputs =
+      unless startNumberOf (l .out) (putBytes (l .out) 0 (take 16 (sealing []))) ∷ plainOutputsFrom sealing plainStart (l .calls)
 
 -- ---- a message cut into strips, each with room in its output, and then the end
 pub record Piece : Type 0 where
@@ -145,9 +171,9 @@ AllDone (t ∷ ts) = (t .number ≡ 0) × AllDone ts
 -- ---- the theorem
 pub record StripLists : Type 0 where
   pub agrees : (l : StripList) → runTold l ≡ plainTold l
+  pub outputs : (l : StripList) → runOutputs l ≡ plainOutputs l
   pub bytes : (l : StripList) → startNumberOf l ≡ 0
       → runWritten l ≡ pick (plainOf l .finished) (sealing l (plainOf l .message)) (take (16 + length (plainOf l .message)) (sealing l (plainOf l .message)))
-  pub nothing : (l : StripList) → (startNumberOf l ≡ 0 → ⊥) → runWritten l ≡ []
   pub any-cut : (key nonce secret associated out end : Bytes) (xs : List Piece)
       → length key ≡ 16 → length nonce ≡ 16 → length secret ≡ 16 → length associated ≤ maxLength → 16 ≤ length out
       → length (joined xs) ≤ maxLength → 16 ≤ length end

@@ -122,7 +122,7 @@ fn feed_block(v: [u8; 160], fill: usize, m: &[u8], at: usize, n: usize, out: &mu
     b
 }
 
-// The same for the bytes of m from index from on, of which there are some, where a block begins. Full blocks but the last go word by word.
+// The same for the bytes of m from index from on, where a block begins. Full blocks but the last go word by word.
 fn feed_blocks(v: [[u64; 5]; 4], m: &[u8], from: usize, out: &mut [u8]) -> [u8; 160]
     requires { ⌜ (from ≤ length (now m)) × (length (now m) ≤ length (now out)) ⌝ }
     ensures { λ r. ⌜ (r ≡ fed 128 (held (bytesOf v) 0) (drop from (now (m .entry))) .state)
