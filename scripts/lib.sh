@@ -17,8 +17,16 @@ Libs: -L\${pcfiledir} -l$1_c
 END
 }
 
-rt staticlib icepole_c
-rt staticlib burst_c
+# Proves a crate with all below it, and writes its library; what the prover says stays in build.
+build() {
+    echo "proving and building lib$1.a (some minutes the first time)"
+    rt staticlib "$1" >"build/$1.log" 2>&1 || { cat "build/$1.log"; exit 1; }
+    grep '^rt: .* proved' "build/$1.log"
+}
+
+mkdir -p build
+build icepole_c
+build burst_c
 rm -rf $folder
 mkdir -p $folder
 gather icepole "ICEPOLE-128, 128a and 256a: authenticated encryption of whole messages and of strips"
