@@ -1,21 +1,23 @@
 /*
  * A burst the way a camera records it: pictures come from the sensor one at a
- * time, one shot is lost, one picture is too long and is refused; the burst is
- * closed, written to the card, and read back from there.
+ * time, two shots are lost, one picture is too long and its shot is dropped; the
+ * burst is closed, written to the card, and read back from there.
  *
  *     firmware CARD_FILE
  *
  * Recording. The calls of a burst are gathered in memory as a script, and
  * burst_replay performs them at once (burst.h lays scripts and answers out).
+ * A shot number counts firings from 1, and a refused call takes none. So a keep
+ * that would be refused is not put into the script: its shot is dropped, and the
+ * shots after it have their right numbers.
  *
  * Memory. For n pictures of p bytes in all, and d dropped shots, in bytes:
  *     script    22 n + p + d + 1    a keep is 6 and its stamp 16; drop and close are 1
  *     buffer    44 n + p + 64       the file: a record is its picture and 32, an index entry 12, header and closing seal 64
  *     answers   8 (n + d + 2)       begin, the keeps and drops, close
- * So each picture is in memory twice until the script is let go. A picture that
- * is refused takes its bytes of the script all the same, but none of the buffer.
- * The longest burst, 60 pictures of 1,048,576 bytes, takes 62,915,881 bytes of
- * script and 62,917,264 of buffer.
+ * So each picture is in memory twice until the script is let go, and a script
+ * is never longer than its buffer. The longest burst, 60 pictures of 1,048,576
+ * bytes, takes 62,915,881 bytes of script and 62,917,264 of buffer.
  *
  * On a camera the rooms below are static arrays. Here they are pieces of the
  * heap, so that a memory checker sees an access beside them.
@@ -35,9 +37,9 @@
 enum {
     FIRINGS = 6,                              /* of one trigger */
     FRAME_ROOM = BURST_MAX_PICTURE_BYTES + 1, /* this sensor can give one byte more than a picture may have */
-    SCRIPT_ROOM = FRAME_ROOM + 64 * 1024,
     BUFFER_ROOM = 64 * 1024,
-    MOST_CALLS = BURST_MAX_SHOTS + 1, /* the shots and the close; a refused call is one of these too */
+    SCRIPT_ROOM = BUFFER_ROOM,
+    MOST_CALLS = BURST_MAX_SHOTS + 1, /* the shots and the close */
     ANSWERS_ROOM = BURST_ANSWER_BYTES * (1 + MOST_CALLS)
 };
 
@@ -120,11 +122,13 @@ static int reader_refused(const char *call, uint32_t number, uint32_t mark)
 
 enum { SCRIPT_DROP = 0, SCRIPT_CLOSE = 1, SCRIPT_KEEP = 2 };
 enum { KEEP_FRONT = 6, CLOSE_BYTES = 1 };
+enum { RECORD_OVERHEAD = 32, ENTRY_BYTES = 12 }; /* sealed stamp and tag; the index entry */
 
 struct script {
     uint8_t *bytes;
     size_t room, used;
-    size_t calls, most_calls; /* a call without room for its answer is not performed */
+    size_t calls, most_calls;     /* a call without room for its answer is not performed */
+    size_t file_room, file_bytes; /* of the buffer, and of the file that the script gives */
 };
 
 /* The bytes that keeps and drops may still take; room for the close is held back, so that every burst can be closed. */
@@ -134,14 +138,21 @@ static size_t script_left(const struct script *s)
     return s->calls + 1 < s->most_calls && held < s->room ? s->room - held : 0;
 }
 
-/* Each helper returns 1, or 0 where the script has no room and stays as it was. */
+/* The bytes that a picture may still have in the buffer: a longer one would be refused with 11. */
+static size_t file_left(const struct script *s)
+{
+    size_t held = s->file_bytes + RECORD_OVERHEAD + ENTRY_BYTES;
+    return held < s->file_room ? s->file_room - held : 0;
+}
+
+/* Each helper returns 1, or 0 where script or buffer have no room and the script stays as it was. */
 static int script_keep(struct script *s, const uint8_t stamp[BURST_STAMP_BYTES], const uint8_t *picture, size_t length)
 {
     const size_t front = KEEP_FRONT + BURST_STAMP_BYTES;
     const size_t left = script_left(s);
     uint8_t *at = s->bytes + s->used;
 
-    if (left < front || length > left - front || length > UINT32_MAX) {
+    if (left < front || length > left - front || length > file_left(s) || length > UINT32_MAX) {
         return 0;
     }
     at[0] = SCRIPT_KEEP;
@@ -150,6 +161,7 @@ static int script_keep(struct script *s, const uint8_t stamp[BURST_STAMP_BYTES],
     memcpy(at + KEEP_FRONT, stamp, BURST_STAMP_BYTES);
     memcpy(at + front, picture, length);
     s->used += front + length;
+    s->file_bytes += length + RECORD_OVERHEAD + ENTRY_BYTES;
     s->calls++;
     return 1;
 }
@@ -199,19 +211,19 @@ static void stamp_now(uint32_t firing, uint8_t stamp[BURST_STAMP_BYTES])
 
 /* ---- Recording ---- */
 
-/* One firing: a keep, or a drop where the shot was lost. A keep that is refused later takes no shot number; to count such a
- * firing as a shot, test the length here and drop. */
+/* One firing: a keep, or a drop where the shot was lost or its picture cannot be kept. Either counts the firing. */
 static int record_firing(struct script *s, uint32_t firing, uint8_t frame[FRAME_ROOM])
 {
     uint8_t stamp[BURST_STAMP_BYTES];
     size_t length = sensor_read(firing, frame);
 
     stamp_now(firing, stamp);
-    if (length > 0 && script_keep(s, stamp, frame, length)) {
+    if (length > BURST_MAX_PICTURE_BYTES) {
+        printf("%zu bytes, above the longest picture: the shot is dropped\n", length);
+    } else if (length > 0 && script_keep(s, stamp, frame, length)) {
         printf("call %zu: keep %zu bytes\n", s->calls, length);
         return 1;
-    }
-    if (length > 0) {
+    } else if (length > 0) {
         printf("no room for %zu bytes: the shot is dropped\n", length);
     }
     if (!script_drop(s)) {
@@ -222,26 +234,29 @@ static int record_firing(struct script *s, uint32_t firing, uint8_t frame[FRAME_
     return 1;
 }
 
-/* Goes through the answers: begin's, then one for each call, the close's last. Returns the file's length, 0 where there is
- * none. */
+/* Goes through the answers: begin's, then one for each call, the close's last. What can be refused was tested before, so that a
+ * refusal here is a fault of this program: it is told, and the file is not used, since the shots after a refused one have wrong
+ * numbers. Returns the file's length, 0 where there is none. */
 static size_t file_length(const uint8_t *answers, size_t count, size_t calls)
 {
-    uint32_t number = 0, shot_or_total = 0;
+    uint32_t shot_or_total = 0;
+    int refused = 0;
 
     if (count != calls + 1) {
         printf("%zu answers to %zu calls\n", count, calls + 1);
         return 0;
     }
     for (size_t call = 0; call < count; call++) {
-        number = get_u32(answers + BURST_ANSWER_BYTES * call);
+        uint32_t number = get_u32(answers + BURST_ANSWER_BYTES * call);
         shot_or_total = get_u32(answers + BURST_ANSWER_BYTES * call + 4);
         if (number != BURST_DONE) {
             printf("call %zu refused with %" PRIu32 ": %s\n", call, number, refusal_text(number));
+            refused = 1;
         } else if (call > 0 && call < calls) {
             printf("call %zu is shot %" PRIu32 "\n", call, shot_or_total);
         }
     }
-    if (number != BURST_DONE) {
+    if (refused) {
         return 0;
     }
     printf("closed: %" PRIu32 " bytes\n", shot_or_total);
@@ -327,9 +342,7 @@ static uint8_t *read_card(const char *name, size_t *length)
 
 /* ---- Reading back ---- */
 
-enum { RECORD_OVERHEAD = 32 }; /* the sealed stamp and the tag */
-
-/* The picture of a place is the one that the sensor gave. */
+/* The picture of a place is the one that the sensor gave, and its shot number counts its firing. */
 static int as_the_sensor_gave(const uint8_t *picture, size_t length, const uint8_t info[BURST_FETCH_INFO_BYTES],
                               uint8_t frame[FRAME_ROOM])
 {
@@ -340,7 +353,7 @@ static int as_the_sensor_gave(const uint8_t *picture, size_t length, const uint8
         return 0;
     }
     stamp_now(firing, stamp);
-    return get_u32(info + 2) == length && memcmp(info + 6, stamp, sizeof stamp) == 0 &&
+    return get_u16(info) == firing + 1 && get_u32(info + 2) == length && memcmp(info + 6, stamp, sizeof stamp) == 0 &&
            memcmp(picture, frame, length) == 0;
 }
 
@@ -420,7 +433,7 @@ static int read_back(const char *name, uint8_t *frame)
 
 static int trigger(const char *name)
 {
-    struct script script = {malloc(SCRIPT_ROOM), SCRIPT_ROOM, 0, 0, MOST_CALLS};
+    struct script script = {malloc(SCRIPT_ROOM), SCRIPT_ROOM, 0, 0, MOST_CALLS, BUFFER_ROOM, BURST_MIN_FILE_BYTES};
     uint8_t *frame = malloc(FRAME_ROOM);
     uint8_t *buffer = malloc(BUFFER_ROOM);
     uint8_t *answers = malloc(ANSWERS_ROOM);
