@@ -134,7 +134,7 @@ static double per(const struct study *y, const struct burst *b) { return y->by_b
 /* Decimals that give about three digits. */
 static int decimals(double figure) { return figure < 10 ? 2 : figure < 100 ? 1 : 0; }
 
-/* Each time is set against sealing the reference just before it; it is sealed once untimed, since the burst before has filled the caches. */
+/* Each time is set against the sealing of the reference before it; that is done once untimed first, since the burst before has filled the caches. */
 static void study(const struct study *y)
 {
     static double turn[SHAPES][CALLS][TURNS], unit[TURNS];
