@@ -3,7 +3,7 @@
 use crate::files::{self, Burst};
 use crate::layout::{self, Entry, Field, Header, ENTRY_BYTES, FIELDS, HEADER_BYTES, SEAL_BYTES};
 use crate::library::{self, MAX_FILE_BYTES};
-use crate::messages::Failure;
+use crate::messages::{Failure, FRONT_EXPLAINED};
 use std::path::Path;
 
 const FRONT_BROKEN: u32 = 12;
@@ -18,8 +18,11 @@ pub fn explain(path: &Path) -> Result<(), Failure> {
         Some(header) if front_is_right(&bytes) => files::print(&drawing(&bytes, &header)),
         _ => {
             files::print(&broken(&bytes))?;
-            let (number, about) = (FRONT_BROKEN, name);
-            Err(Failure::Refused { number, about })
+            Err(Failure::Refused {
+                number: FRONT_BROKEN,
+                about: name,
+                advice: FRONT_EXPLAINED,
+            })
         }
     }
 }

@@ -62,6 +62,8 @@ struct Waiting {
 pub struct Outputs {
     force: bool,
     made_folder: Option<PathBuf>,
+    /// The folder in which nothing but these files may stand.
+    own_folder: Option<PathBuf>,
     waiting: Vec<Waiting>,
 }
 
@@ -70,6 +72,7 @@ impl Outputs {
         Outputs {
             force,
             made_folder: None,
+            own_folder: None,
             waiting: Vec::new(),
         }
     }
@@ -85,13 +88,33 @@ impl Outputs {
         }
     }
 
-    /// Makes the folder if it is not there. It goes again if an output fails.
+    /// Makes the folder if it is not there; it goes again if an output fails.
+    /// One that is there is empty, unless force.
     pub fn make_folder(&mut self, folder: &Path) -> Result<(), Failure> {
+        if !self.force {
+            self.own_folder = Some(folder.into());
+        }
         if folder.is_dir() {
-            return Ok(());
+            return self.test_own_folder();
         }
         fs::create_dir(folder).map_err(|error| Failure::file("make", folder, error))?;
         self.made_folder = Some(folder.into());
+        Ok(())
+    }
+
+    /// Nothing stands in the own folder but what waits there.
+    fn test_own_folder(&self) -> Result<(), Failure> {
+        let Some(folder) = &self.own_folder else {
+            return Ok(());
+        };
+        let failed = |error| Failure::file("look at", folder, error);
+        for entry in fs::read_dir(folder).map_err(failed)? {
+            let name = entry.map_err(failed)?.file_name();
+            let waits = |own: &Waiting| own.temporary.file_name() == Some(&name);
+            if !self.waiting.iter().any(waits) {
+                return Err(Failure::NotEmpty(folder.clone()));
+            }
+        }
         Ok(())
     }
 
@@ -112,6 +135,7 @@ impl Outputs {
 
     /// Gives every file its name.
     pub fn place(mut self) -> Result<(), Failure> {
+        self.test_own_folder()?;
         for waiting in &self.waiting {
             self.test(&waiting.target)?;
         }

@@ -37,7 +37,8 @@ Exit status:
   13  refused: there is no picture at that place
   64  the command line is wrong
   65  list: the file has more than 65,536 bytes
-  73  an output file exists already (see --force), or is not a plain file
+  73  an output file exists already, or the folder of --all is not empty (see --force);
+      or an output is not a plain file
   74  a file cannot be read or written
 ";
 
@@ -59,8 +60,9 @@ Shots, in the order of firing, at most 60:
                          of 1 to 1,048,576 bytes
   --drop                 a shot whose picture is not kept
 
-MARK and STAMP are hex: and 32 hex digits, or else text of at most 16 bytes, which is
-filled up with zero bytes.
+MARK and STAMP are hex: and 32 hex digits, or else text of 1 to 16 bytes, which is
+filled up with zero bytes. Empty text, as an unset variable of a shell gives it, is
+refused with 3, and so is hex: with no digits.
 
 Example:
   burst record --key camera.key --number 7 --site-mark 'north ridge' --out 7.burst \\
@@ -87,7 +89,8 @@ the exit status is its number:
 
   1   the key is not 16 bytes
   12  a front rule is broken: this is no whole burst file
-  7   a tag differs, of the closing seal or of the record of a shot
+  7   a tag differs. That of the closing seal: the file was changed, or the key is
+      another. That of the record of a shot: this record was changed; the key is right
 ";
 
 pub const FETCH: &str = "\
@@ -100,12 +103,15 @@ Checks a whole burst file as `burst check` does, and only then writes pictures.
                             kept pictures from 0; they are not shot numbers
   --all DIRECTORY           every kept picture to a file of its own in DIRECTORY, named
                             by its shot number: shot-002 is the second shot. DIRECTORY
-                            is made if it is not there. If one picture cannot be
-                            written, none is
-  --force                   replaces files that exist
+                            is new or empty, so that pictures of two bursts are not
+                            mixed; it is made if it is not there. If one picture
+                            cannot be written, none is
+  --force                   replaces files that exist, and writes into a DIRECTORY that
+                            is not empty; its other files stay there
 
 It shows shot number, place, length and stamp of each picture. Exit status as of
-`burst check`, and 13 if there is no picture at that place.
+`burst check`, and 13 if there is no picture at that place, 73 if DIRECTORY is not
+empty or PICTURE exists, without --force.
 ";
 
 pub const EXPLAIN: &str = "\

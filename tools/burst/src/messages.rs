@@ -17,13 +17,19 @@ pub enum Failure {
         problem: String,
     },
     /// A call of the library refused, with its number. `about` says of what.
-    Refused { number: u32, about: String },
+    Refused {
+        number: u32,
+        about: String,
+        advice: &'static str,
+    },
     /// The file is longer than the lister reads.
     TooLong,
     /// An output is there already, and --force was not given.
     Exists(PathBuf),
     /// Something that is not a plain file has the name of an output.
     NotAFile(PathBuf),
+    /// A folder for all pictures has files, and --force was not given.
+    NotEmpty(PathBuf),
     /// A file could not be read, written or named.
     File {
         doing: &'static str,
@@ -35,6 +41,16 @@ pub enum Failure {
 }
 
 impl Failure {
+    /// A refusal with the advice that goes with its number.
+    pub fn refused(number: u32, about: String) -> Self {
+        let advice = advice(number);
+        Failure::Refused {
+            number,
+            about,
+            advice,
+        }
+    }
+
     pub fn file(doing: &'static str, path: &Path, error: io::Error) -> Self {
         let path = path.to_path_buf();
         Failure::File { doing, path, error }
@@ -46,7 +62,7 @@ impl Failure {
             // Every number of the library is far below 256.
             Failure::Refused { number, .. } => u8::try_from(*number).unwrap_or(u8::MAX),
             Failure::TooLong => TOO_LONG,
-            Failure::Exists(_) | Failure::NotAFile(_) => OUTPUT_THERE,
+            Failure::Exists(_) | Failure::NotAFile(_) | Failure::NotEmpty(_) => OUTPUT_THERE,
             Failure::File { .. } | Failure::Print(_) => FILE,
         }
     }
@@ -55,7 +71,7 @@ impl Failure {
     fn problem(&self) -> String {
         match self {
             Failure::Usage { problem, .. } => problem.clone(),
-            Failure::Refused { number, about } => {
+            Failure::Refused { number, about, .. } => {
                 format!("refused with {number}: {}: {about}", words(*number))
             }
             Failure::TooLong => "the file has more than 65,536 bytes; list reads no more".into(),
@@ -63,6 +79,7 @@ impl Failure {
             Failure::NotAFile(path) => {
                 format!("{} is there and is not a plain file", path.display())
             }
+            Failure::NotEmpty(path) => format!("the folder {} is not empty", path.display()),
             Failure::File { doing, path, error } => {
                 format!("cannot {doing} {}: {error}", path.display())
             }
@@ -77,12 +94,17 @@ impl Failure {
             Failure::Usage { command, .. } => {
                 format!("`burst {command} --help` shows how it is called.")
             }
-            Failure::Refused { number, .. } => advice(*number).into(),
+            Failure::Refused { advice, .. } => (*advice).into(),
             Failure::TooLong => {
                 "`burst explain FILE` shows a file of any length, also without a key.".into()
             }
             Failure::Exists(_) => "Give another name, or --force to replace the file.".into(),
             Failure::NotAFile(_) => "Give another name; --force replaces plain files only.".into(),
+            Failure::NotEmpty(_) => {
+                "Name a new or an empty folder, so that pictures of two bursts are not mixed; \
+                 --force writes into this one, and leaves its other files there."
+                    .into()
+            }
             Failure::File { .. } => {
                 "Look at the name, the rights and the room there. No output file was written."
                     .into()
@@ -109,13 +131,23 @@ fn words(number: u32) -> &'static str {
     }
 }
 
-/// What to do about a refusal.
+/// Under 7, where the tag of a shot's record differs.
+pub const RECORD_CHANGED: &str =
+    "The record of that shot was changed or damaged. It is not the key: the closing seal agrees \
+     under it. Copy the file from the card again; if it is refused still, do not use its pictures.";
+
+/// Under 12, where `burst explain` has shown the header and the broken rules.
+pub const FRONT_EXPLAINED: &str =
+    "This is no whole burst file: it may be cut, or another file. Copy it from the card again; \
+     docs/FORMAT.md has the rules that it breaks.";
+
+/// What to do about a refusal, where no more is known than its number.
 fn advice(number: u32) -> &'static str {
     match number {
         1 => "Give a key file of 16 raw bytes, or of 32 hex digits.",
-        3 => "Give text of at most 16 bytes, or hex: and 32 hex digits.",
+        3 => "Give text of 1 to 16 bytes, or hex: and 32 hex digits.",
         7 => {
-            "The file was changed, or sealed under another key. Try the camera's own key, then \
+            "The file was changed or damaged, or sealed under another key. Try the camera's own key, then \
              copy the file from the card again; if it is refused still, do not use its pictures."
         }
         9 => "Put at most 60 shots into a burst, and the others into a burst of another number.",

@@ -3,7 +3,7 @@
 use crate::arguments::{Fetch, PlaceTyped, Wanted};
 use crate::files::{self, Burst, Outputs};
 use crate::library::{self, Checked, Fetched, Refused, MAX_PICTURE_BYTES};
-use crate::messages::Failure;
+use crate::messages::{Failure, RECORD_CHANGED};
 use crate::progress::{megabytes, Progress};
 use crate::secrets::{self, show_mark};
 use std::path::{Path, PathBuf};
@@ -15,13 +15,16 @@ const NO_SUCH_PLACE: u32 = 13;
 
 /// A refusal of a file: under 7 it names the part whose tag differs.
 fn refused(file: &str, refused: Refused) -> Failure {
-    let about = match (refused.number, refused.mark) {
-        (TAG_DIFFERS, 0) => format!("that of the closing seal of {file}"),
-        (TAG_DIFFERS, shot) => format!("that of the record of shot {shot} of {file}"),
-        _ => file.to_string(),
-    };
-    let number = refused.number;
-    Failure::Refused { number, about }
+    let Refused { number, mark } = refused;
+    match (number, mark) {
+        (TAG_DIFFERS, 0) => Failure::refused(number, format!("that of the closing seal of {file}")),
+        (TAG_DIFFERS, shot) => Failure::Refused {
+            number,
+            about: format!("that of the record of shot {shot} of {file}"),
+            advice: RECORD_CHANGED,
+        },
+        _ => Failure::refused(number, file.to_string()),
+    }
 }
 
 /// `burst list`: what the lister prints, and a refusal where it prints one.
@@ -31,10 +34,7 @@ pub fn list(path: &Path) -> Result<(), Failure> {
     files::print(&String::from_utf8_lossy(&text))?;
     match text.as_slice() {
         b"front too long\n" => Err(Failure::TooLong),
-        b"front 12\n" => {
-            let (number, about) = (FRONT_BROKEN, name);
-            Err(Failure::Refused { number, about })
-        }
+        b"front 12\n" => Err(Failure::refused(FRONT_BROKEN, name)),
         _ => Ok(()),
     }
 }
@@ -102,10 +102,8 @@ impl Accepted {
 
     fn no_such_place(&self, place: &str) -> Failure {
         let kept = self.checked.kept;
-        Failure::Refused {
-            number: NO_SUCH_PLACE,
-            about: format!("{place}, in a burst with {kept} kept"),
-        }
+        let about = format!("{place}, in a burst with {kept} kept");
+        Failure::refused(NO_SUCH_PLACE, about)
     }
 }
 

@@ -69,7 +69,7 @@ fn about(wanted: &Record, call: usize, number: u32) -> String {
     if call == 0 {
         return match number {
             1 => wanted.key.display().to_string(),
-            _ => "the site mark".into(),
+            _ => format!("the site mark has {}", wanted.site_mark.len()),
         };
     }
     match wanted.shots.get(call - 1) {
@@ -97,11 +97,7 @@ fn total(wanted: &Record, answers: &[u8]) -> Result<usize, Failure> {
         let (refusal, value) = answer.split_at(ANSWER_BYTES / 2);
         let refusal = number(refusal);
         if refusal != 0 {
-            let about = about(wanted, call, refusal);
-            return Err(Failure::Refused {
-                number: refusal,
-                about,
-            });
+            return Err(Failure::refused(refusal, about(wanted, call, refusal)));
         }
         total = number(value) as usize;
     }

@@ -37,15 +37,15 @@ fn from_hex(digits: &[u8]) -> Option<Vec<u8>> {
 }
 
 /// A stamp or site mark as it is typed: `hex:` and hex digits, else text. Text
-/// of less than 16 bytes is filled up with zero bytes. What then is not 16
-/// bytes long is left as it is, for the library to refuse it.
+/// of 1 to 15 bytes is filled up with zero bytes. What then is not 16 bytes
+/// long, empty text too, is left as it is, for the library to refuse it.
 pub fn parse_mark(typed: &str) -> Result<Vec<u8>, String> {
     if let Some(digits) = typed.strip_prefix(HEX) {
         return from_hex(digits.as_bytes())
             .ok_or_else(|| format!("{HEX} wants pairs of hex digits after it, not `{digits}`"));
     }
     let mut bytes = typed.as_bytes().to_vec();
-    if bytes.len() < MARK_BYTES {
+    if (1..MARK_BYTES).contains(&bytes.len()) {
         bytes.resize(MARK_BYTES, 0);
     }
     Ok(bytes)

@@ -1,7 +1,8 @@
-//! Failures between the first file that is placed and the last, which cannot
-//! be brought about from outside.
+//! Failures between the first file that is written and the last that is placed,
+//! which cannot be brought about from outside.
 
 use super::Outputs;
+use crate::messages::Failure;
 use std::fs;
 use std::path::{Path, PathBuf};
 
@@ -52,6 +53,22 @@ fn replaced_files_come_back() {
     for name in ["a", "c"] {
         assert_eq!(fs::read(folder.join(name)).unwrap(), name.as_bytes());
     }
+    fs::remove_dir_all(&folder).unwrap();
+}
+
+/// So that of two runs into one folder, each of which found it empty, one at
+/// least is refused.
+#[test]
+fn a_file_that_came_into_the_folder_meanwhile_stops_all() {
+    let folder = folder("into");
+    let mut outputs = Outputs::new(false);
+    assert!(outputs.make_folder(&folder).is_ok());
+    for name in ["a", "b"] {
+        assert!(outputs.write(&folder.join(name), b"new").is_ok());
+    }
+    fs::write(folder.join(".other"), "other").unwrap();
+    assert!(matches!(outputs.place(), Err(Failure::NotEmpty(_))));
+    assert_eq!(names(&folder), [".other"]);
     fs::remove_dir_all(&folder).unwrap();
 }
 

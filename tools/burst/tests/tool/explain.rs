@@ -120,6 +120,21 @@ fn broken_rules_are_named() {
     }
 }
 
+/// It has shown already what the other commands send the reader to it for.
+#[test]
+fn explain_does_not_advise_to_run_explain() {
+    let folder = Folder::new();
+    folder.put("7.burst", &WORKED[..110]);
+    let advice = [
+        "Copy it from the card again",
+        "docs/FORMAT.md has the rules",
+    ];
+    let run = folder.say("explain 7.burst").refused(12, &advice);
+    assert!(!run.err.contains("explain"), "{}", run.err);
+    let run = folder.say("list 7.burst");
+    run.refused(12, &["`burst explain FILE` shows"]);
+}
+
 /// Explain says 12 exactly where list does, and then names a rule.
 #[test]
 fn every_changed_bit_of_the_front_is_judged_as_list_judges_it() {

@@ -172,10 +172,10 @@ fn all_pictures_or_none() {
     folder.check_nothing_new();
 
     fs::create_dir(folder.path().join("all")).unwrap();
-    folder.put("all/other", b"stays");
     folder.say_short_of_room(8, ALL).failed(74, &parts);
-    assert_eq!(folder.names("all"), ["other"]);
+    assert!(folder.names("all").is_empty());
 
+    folder.put("all/other", b"stays");
     folder.put("all/shot-001", b"earlier");
     folder
         .say_short_of_room(8, &format!("{ALL} --force"))
@@ -185,13 +185,73 @@ fn all_pictures_or_none() {
 }
 
 #[test]
-fn one_existing_picture_stops_all() {
+fn all_pictures_go_to_a_new_or_an_empty_folder() {
+    let folder = three();
+    let pictures = ["shot-001", "shot-003", "shot-004"];
+    folder.say(ALL).done();
+    assert_eq!(folder.names("all"), pictures);
+    fs::create_dir(folder.path().join("empty")).unwrap();
+    let empty = |end| ALL.replace("--all all", &format!("--all empty{end}"));
+    folder.say(&empty("/")).done();
+    assert_eq!(folder.names("empty"), pictures);
+    folder
+        .say(&empty("/."))
+        .failed(73, &["the folder empty/. is not empty"]);
+}
+
+/// A picture would replace the last of these only; the others would stay beside
+/// the pictures.
+#[test]
+fn a_folder_that_is_not_empty_is_73_and_stays_as_it_was() {
+    for name in ["shot-002", ".hidden", "below", "shot-004"] {
+        let folder = three();
+        let all = folder.path().join("all");
+        fs::create_dir(&all).unwrap();
+        match name {
+            "below" => fs::create_dir(all.join(name)).unwrap(),
+            _ => folder.put(&format!("all/{name}"), b"of another burst"),
+        }
+        let parts = [
+            "the folder all is not empty",
+            "Name a new or an empty folder",
+            "--force",
+        ];
+        let run = folder.say(ALL).failed(73, &parts);
+        assert_eq!(run.out, "");
+        assert_eq!(folder.names("all"), [name]);
+        assert_eq!(folder.names("."), ["7.burst", "all", "fox", "key"]);
+        if name != "below" {
+            assert_eq!(folder.get(&format!("all/{name}")), b"of another burst");
+        }
+    }
+}
+
+#[test]
+fn a_burst_without_pictures_wants_an_empty_folder_too() {
+    let folder = Folder::new();
+    folder.record(&["--drop"]).done();
+    let line = "fetch --key key --all all out.burst";
+    folder.say("fetch --key key --all all 7.burst").done();
+    folder.say(line).failed(73, &["all is not empty"]);
+    let out = folder.say(&format!("{line} --force")).done();
+    assert_eq!(out, "shot 1 dropped\n");
+    assert_eq!(folder.names("all"), ["shot-002"]);
+}
+
+#[test]
+fn a_refused_file_is_told_before_a_folder_that_is_not_empty() {
+    let folder = Folder::new();
+    folder.put("7.burst", &WORKED[..110]);
+    let run = folder.say("fetch --key key --all . 7.burst");
+    run.refused(12, &[]);
+    folder.check_nothing_new();
+}
+
+#[test]
+fn force_writes_all_into_a_folder_that_is_not_empty() {
     let folder = three();
     fs::create_dir(folder.path().join("all")).unwrap();
     folder.put("all/shot-004", b"earlier");
-    folder.say(ALL).failed(73, &["all/shot-004 exists already"]);
-    assert_eq!(folder.names("all"), ["shot-004"]);
-
     folder.put("all/shot-002", b"of a dropped shot, stays");
     folder.say(&format!("{ALL} --force")).done();
     assert_eq!(

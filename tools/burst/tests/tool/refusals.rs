@@ -53,6 +53,28 @@ fn a_stamp_of_another_length_is_3_with_its_shot() {
     }
 }
 
+/// As a shell gives it for a variable that is not set. Sixteen zero bytes can
+/// still be given as hex digits.
+#[test]
+fn an_empty_site_mark_or_stamp_is_3() {
+    let folder = Folder::new();
+    let zeros = format!("hex:{}", "0".repeat(32));
+    let record = |site_mark, stamp| {
+        let front = "record --key key --number 7 --out out.burst";
+        let rest = ["--site-mark", site_mark, "--keep", stamp, "fox"];
+        folder.run(&front.split(' ').chain(rest).collect::<Vec<_>>())
+    };
+    for none in ["", "hex:"] {
+        let parts = ["the site mark has 0", "text of 1 to 16 bytes"];
+        record(none, "x").refused(3, &parts);
+        record(none, none).refused(3, &parts);
+        let parts = ["the stamp of shot 1 (fox) has 0", "text of 1 to 16 bytes"];
+        record("x", none).refused(3, &parts);
+        folder.check_nothing_new();
+    }
+    record(&zeros, &zeros).done();
+}
+
 #[test]
 fn shot_61_is_9() {
     let folder = Folder::new();
@@ -100,19 +122,49 @@ fn every_damaged_sealed_byte_is_7_and_leaves_no_output() {
         let mut file = WORKED;
         file[at] ^= 1 << (at % 8);
         folder.put("7.burst", &file);
-        let part = match at < 67 {
-            true => "that of the record of shot 2 of 7.burst",
-            false => "that of the closing seal of 7.burst",
+        let parts = match at < 67 {
+            true => RECORD_CHANGED,
+            false => CLOSING_DIFFERS,
         };
-        check_refused(&folder, 7, &["a tag differs", part, "another key"]);
+        check_refused(&folder, 7, &parts);
     }
+}
+
+/// What is said under 7, of the record of shot 2 and of the closing seal.
+const RECORD_CHANGED: [&str; 3] = [
+    "a tag differs: that of the record of shot 2 of 7.burst\n",
+    "The record of that shot was changed or damaged.",
+    "It is not the key: the closing seal agrees under it.",
+];
+const CLOSING_DIFFERS: [&str; 3] = [
+    "a tag differs: that of the closing seal of 7.burst\n",
+    "The file was changed or damaged, or sealed under another key.",
+    "Try the camera's own key",
+];
+
+#[test]
+fn another_key_is_named_only_where_the_closing_seal_differs() {
+    let folder = Folder::new();
+    let mut file = WORKED;
+    file[32] ^= 1;
+    folder.put("7.burst", &file);
+    let run = folder.say("check --key key 7.burst");
+    let run = run.refused(7, &RECORD_CHANGED);
+    assert!(!run.err.contains("another key"), "{}", run.err);
+    assert!(!run.err.contains("own key"), "{}", run.err);
+
+    // The record is damaged still; the closing seal comes first.
+    folder.put("key", &[9; 16]);
+    let run = folder.say("check --key key 7.burst");
+    let run = run.refused(7, &CLOSING_DIFFERS);
+    assert!(!run.err.contains("record of"), "{}", run.err);
 }
 
 #[test]
 fn another_key_is_7_at_the_closing_seal() {
     let folder = Folder::new();
     folder.put("key", &[9; 16]);
-    check_refused(&folder, 7, &["that of the closing seal of 7.burst"]);
+    check_refused(&folder, 7, &CLOSING_DIFFERS);
 }
 
 #[test]
@@ -123,7 +175,7 @@ fn every_cut_is_12_also_for_list_and_explain() {
         let parts = ["a front rule is broken: 7.burst", "burst explain"];
         let run = folder.say("list 7.burst").refused(12, &parts);
         assert_eq!(run.out, "front 12\n");
-        folder.say("explain 7.burst").refused(12, &parts);
+        folder.say("explain 7.burst").refused(12, &parts[..1]);
         folder.say("check --key key 7.burst").refused(12, &parts);
         folder
             .say("fetch --key key --all all 7.burst")

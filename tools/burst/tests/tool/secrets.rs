@@ -57,10 +57,14 @@ fn text_is_filled_up_with_zero_bytes() {
         "hex:7369787465656E206C65747465727321",
     );
     assert_eq!(text, hex);
-    let none = marked(&folder, "", "hex:00000000000000000000000000000000");
-    let zeros = marked(&folder, "hex:00000000000000000000000000000000", "");
-    assert_eq!(none, zeros);
-    assert_ne!(text, none);
+    let letter = marked(&folder, "a", "b");
+    let hex = marked(
+        &folder,
+        "hex:61000000000000000000000000000000",
+        "hex:62000000000000000000000000000000",
+    );
+    assert_eq!(letter, hex);
+    assert_ne!(text, letter);
 }
 
 #[test]
@@ -72,7 +76,10 @@ fn marks_are_shown_as_text_where_they_are_text() {
             "\"north ridge\" hex:6E6F7274682072696467650000000000",
         ),
         ("Höhle", "\"Höhle\" hex:48C3B6686C6500000000000000000000"),
-        ("", "hex:00000000000000000000000000000000"),
+        (
+            "hex:00000000000000000000000000000000",
+            "hex:00000000000000000000000000000000",
+        ),
         // A terminal would obey these.
         ("\x1b[2J", "hex:1B5B324A000000000000000000000000"),
         (

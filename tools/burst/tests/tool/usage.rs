@@ -127,6 +127,23 @@ fn help_names_every_command_and_status() {
 }
 
 #[test]
+fn help_tells_of_empty_marks_and_of_folders() {
+    let folder = Folder::new();
+    for (line, words) in [
+        ("--help", "the folder of --all is not empty (see --force)"),
+        ("record --help", "text of 1 to 16 bytes"),
+        ("record --help", "Empty text"),
+        ("fetch --help", "is new or empty"),
+        ("fetch --help", "73 if DIRECTORY is not\nempty"),
+        ("check --help", "this record was changed; the key is right"),
+    ] {
+        let help = folder.say(line).done();
+        assert!(help.contains(words), "{words}: {help}");
+        assert!(help.lines().all(|line| line.len() <= 90), "{help}");
+    }
+}
+
+#[test]
 fn help_wins_over_the_rest_of_the_line() {
     let folder = Folder::new();
     let out = folder.say("record --key key --help").done();
