@@ -32,7 +32,7 @@ enum burst_refusal {
     BURST_KEY_LENGTH = 1,       /* the key is not 16 bytes */
     BURST_SECRET_LENGTH = 3,    /* stamp or site mark is not 16 bytes */
     BURST_OUTPUT_TOO_SHORT = 5, /* out or info is too short */
-    BURST_TAG_DIFFERS = 7,      /* not sealed under this key: the file or the key is another */
+    BURST_TAG_DIFFERS = 7,      /* mark 0: the file or the key is another; else the record of that shot was changed */
     BURST_NOT_SOUND = 8,        /* the burst is closed, or its begin was refused */
     BURST_FULL = 9,             /* 60 shots were taken */
     BURST_PICTURE_LENGTH = 10,  /* a picture has 1 to 1,048,576 bytes */
