@@ -125,6 +125,18 @@ moved_folder() {
     run build/moved/program "$@"
 }
 
+# Instructions of a 128-byte block sealed, by callgrind, are at most what was wanted. What calls the functions of a block decides what the compiler makes of them.
+block() {
+    if ! command -v valgrind >/dev/null; then
+        echo "valgrind is not here: no instructions were counted"
+        return 0
+    fi
+    gcc -std=c11 -Wall -Wextra -Werror -O2 bench/block.c target/staticlib/libicepole_c.a -o build/block || return 1
+    for bytes in 32768 16384; do
+        valgrind --tool=callgrind --callgrind-out-file=/dev/null build/block $bytes 2>&1 | awk '/Collected/ {print $4}'
+    done | awk '{n[NR] = $1} END {count = (n[1] - n[2]) / 128; printf "%.0f instructions of a sealed block\n", count; exit !(NR == 2 && count > 0 && count <= 1930)}'
+}
+
 # Random cases with a new seed each time.
 soak() {
     make -s -o lib soak COUNT=100000 >build/soak.log 2>&1 || { cat build/soak.log; return 1; }
@@ -156,6 +168,7 @@ step "the C program of bursts, sanitized" c_sanitized tests/burst_calls/c/record
 step "the example, sanitized" c_sanitized examples/firmware.c libburst_c.a build/card.burst
 step "icepole from build/lib" moved_folder tests/c_calls/c/roundtrip.c icepole
 step "burst from build/lib" moved_folder examples/firmware.c burst build/card.burst
+step "instructions of a sealed block" block
 rust_tests tests
 rust_tests tools/burst
 step "make demo" demo

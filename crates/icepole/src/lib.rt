@@ -129,7 +129,7 @@ fn absorb_words(s: State, d: &[u8], at: usize, n: usize, frame: u64) -> State
 }
 
 // The state after a block of n words of a message, whose ciphertext is put into out from index to on.
-fn encrypt_words(s: State, m: &[u8], at: usize, n: usize, out: &mut [u8], to: usize) -> State
+pub fn encrypt_words(s: State, m: &[u8], at: usize, n: usize, out: &mut [u8], to: usize) -> State
     requires { ⌜ (n < 20) × (at + 8 * n ≤ length (now m)) × (to + 8 * n ≤ length (now out)) ⌝ }
     ensures { λ r. ⌜ (bytesOf r ≡ absorb (bytesOf s) (take (8 * n) (drop at (now (m .entry)))) 1)
         × (now (out .exit) ≡ putBytes (now (out .entry)) to (bytesOf s ⊕ take (8 * n) (drop at (now (m .entry))))) ⌝ }
@@ -186,7 +186,7 @@ fn decrypt_words(s: State, c: &[u8], at: usize, n: usize, out: &mut [u8], to: us
 }
 
 // ---- the same, with the count of words known to the compiler where it is that of a variant
-pub fn encrypt_full(s: State, m: &[u8], at: usize, n: usize, out: &mut [u8], to: usize) -> State
+fn encrypt_full(s: State, m: &[u8], at: usize, n: usize, out: &mut [u8], to: usize) -> State
     requires { ⌜ (n < 20) × (at + 8 * n ≤ length (now m)) × (to + 8 * n ≤ length (now out)) ⌝ }
     ensures { λ r. ⌜ (bytesOf r ≡ absorb (bytesOf s) (take (8 * n) (drop at (now (m .entry)))) 1)
         × (now (out .exit) ≡ putBytes (now (out .entry)) to (bytesOf s ⊕ take (8 * n) (drop at (now (m .entry))))) ⌝ }

@@ -20,6 +20,9 @@ pub const STRIP_STATE: u32 = 14;
 // Bytes of a block.
 const BLOCK: usize = 128;
 
+// Words of a block.
+const WORDS: usize = 16;
+
 // Bytes of the tag.
 const TAG: usize = 16;
 
@@ -131,7 +134,7 @@ fn feed_blocks(v: [[u64; 5]; 4], m: &[u8], from: usize, out: &mut [u8]) -> [u8; 
     let mut s = v;
     let mut at = from;
     while BLOCK < m.len() - at {
-        let t = icepole::encrypt_full(s, m, at, 16, out, at);
+        let t = icepole::encrypt_words(s, m, at, WORDS, out, at);
         s = t;
         at += BLOCK;
     }

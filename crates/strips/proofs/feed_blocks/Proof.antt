@@ -27,7 +27,7 @@ loop-again : tie.Need-loop-again Inv-loop μ-loop
 loop-again c =
     let l = c .before .before .before .before .before .loop in
     let m = c .before .before .before .before .before .before .before .before .args .m .now in
-    let q = c .before .before .encrypt-full .ensures in
+    let q = c .before .before .encrypt-words .ensures in
     let h = c .before .before .before .before .loop-test .taken in
     let s = bytesOf (l .s) in (
       omega arith,
