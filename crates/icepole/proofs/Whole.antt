@@ -1,4 +1,4 @@
--- Whole messages: what the calls of `seal_into`, `open_ready` and `tag_agrees` give, joined.
+-- Whole messages: what the calls of `seal_ready`, `seal_into`, `open_ready` and `tag_agrees` give, joined.
 -- Assumes nothing.
 use mathlib.Core.Path.{_≡_, ap, ap₂, _∙_}
 use Prim.Native.Nat.{ℕ, _+_, _-_, _*_, _/_, _%_, _≤_}

@@ -1,6 +1,6 @@
 -- The C calls of strips: the state as bytes, and what each call returns and leaves.
 -- Assumes nothing.
-use mathlib.Core.Path.{_≡_, refl, sym, ap, ap₂, _∙_}
+use mathlib.Core.Path.{_≡_, refl, sym, ap, _∙_}
 use mathlib.Core.List.{_++_, append-assoc}
 use mathlib.Core.Bool.{Bool, true, false, not}
 use Prim.Native.Nat.{ℕ, zero, suc, _+_, _%_, _≤_, _<_}
@@ -11,13 +11,11 @@ use lib.ListN.{length, take, drop, getD, length-append}
 use lib.Seq.{take-at, drop-at, getD-append-seam}
 use Rattle.bytes_le.specs.Bytes.{Bytes, putBytes, le, leAt, unle}
 use Rattle.bytes_le.proofs.Laws.{put-front, put-put, unle-8}
-use Rattle.icepole.specs.declared.Variant.the-variants.{Icepole128}
-use Rattle.icepole.specs.Variants.{sizes}
 use Rattle.icepole.specs.Sealing.{pick}
 use Rattle.icepole.specs.Answers.{unless}
 use Rattle.strips.specs.declared.StripState.{StripState}
 use Rattle.strips.specs.declared.StripAnswer.{StripAnswer}
-use Rattle.strips.specs.Answers.{startAnswer, startNumber, startOutput, startRefusal, stripAnswer, stripOutput, stripRefusal, endAnswer, endOutput, endRefusal}
+use Rattle.strips.specs.Answers.{startAnswer, startOutput, startRefusal, stripAnswer, stripOutput, stripRefusal, endAnswer, endOutput, endRefusal}
 use Rattle.icepole_c.specs.Strips.{StatePasses, flag, stripStateBytes, stripStateIn, startCallNumber, startCallOutput, startCallState, stripCallNumber, stripCallOutput, stripCallState, endCallNumber, endCallOutput, endCallState}
 
 -- the three runs of a state's bytes touch
@@ -95,13 +93,6 @@ module _ (st o : Bytes) (h : 169 ≤ length st) (s : StripState) (es : s ≡ str
       done st o (endAnswer (stripStateIn st) o) (endOutput (stripStateIn st) o) h r (er ∙ ap (λ (s : StripState). endAnswer s o) es) o′ (eo ∙ ap (λ (s : StripState). endOutput s o) es)
 
 -- ---- start
--- the number from the lengths
-pub start-number-of : (k n s f g o : Bytes) (num : ℕ) → num ≡ startNumber (sizes Icepole128) (length k) (length n) (length s) (length f + length g) (length o)
-    → num ≡ startRefusal k n s (f ++ g) o
-unfolding startRefusal
-start-number-of k n s f g o num e =
-    e ∙ ap (λ (a : ℕ). startNumber (sizes Icepole128) (length k) (length n) (length s) a (length o)) (sym (length-append f g))
-
 module _ (k n s a o st : Bytes) where
   pub start-short-refused : length st < 169 → (num : ℕ) → num ≡ startRefusal k n s a o → (num ≡ 0 → ⊥)
       → (num ≡ startCallNumber k n s a o st) × (o ≡ startCallOutput k n s a o st) × (st ≡ startCallState k n s a o st)

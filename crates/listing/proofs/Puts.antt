@@ -1,11 +1,10 @@
 -- Digits from the back, and runs of text that touch.
 -- Assumes nothing.
-use mathlib.Core.Path.{_≡_, refl, sym, ap, ap₂, _∙_}
-use mathlib.Core.List.{List, [], _∷_, _++_, append-assoc}
+use mathlib.Core.Path.{_≡_, refl, sym, ap, _∙_}
+use mathlib.Core.List.{[], _∷_, _++_, append-assoc}
 use mathlib.Core.Bool.{Bool, true, false}
-use Prim.Native.Nat.{ℕ, zero, suc, _+_, _-_, _*_, _/_, _%_, _≤_, _<_}
+use Prim.Native.Nat.{ℕ, zero, suc, _+_, _-_, _/_, _%_, _≤_, _<_}
 use native.Mathlib.Nat.{le-of-suc-le-suc, not-suc-le-zero, zero-add}
-use native.Mathlib.Numerals.{add-one}
 use native.Mathlib.Omega.{arith}
 use borrow.Author.Tests.{le-ltb, lt-ltb}
 use lib.Dec.{ltb}
@@ -14,10 +13,8 @@ use lib.Seq.{take-all}
 use Rattle.bytes_le.specs.Bytes.{Bytes, putBytes}
 use Rattle.bytes_le.proofs.Laws.{put-put}
 use Rattle.icepole.specs.Sealing.{pick}
-use Rattle.burst.specs.declared.Entry.{Entry}
-use Rattle.reader.specs.Front.{entriesAt, entryAt}
 use Rattle.listing.specs.Text.{ascii, decimal, digit, digitsBefore}
-use Rattle.listing.specs.Listing.{field, headLines, shotLine, shotLines}
+use Rattle.listing.specs.Listing.{field, headLines, shotLine}
 
 -- ---- digits
 drop-set : (b : Bytes) (i x : ℕ) → i < length b → drop i (set b i x) ≡ x ∷ drop (suc i) b

@@ -28,12 +28,17 @@ module _ (num : ℕ) (was is : StripState) (count : ℕ) (o o′ : Bytes) where
   done e = (sym (simp e), sym (simp e))
 
 -- ---- start
+-- the number, from the lengths of what is lent
+pub start-number-of : (k n s f g o : Bytes) (num : ℕ) → num ≡ startNumber (sizes Icepole128) (length k) (length n) (length s) (length f + length g) (length o)
+    → num ≡ startRefusal k n s (f ++ g) o
+unfolding startRefusal
+start-number-of k n s f g o num e =
+    e ∙ ap (λ (a : ℕ). startNumber (sizes Icepole128) (length k) (length n) (length s) a (length o)) (sym (length-append f g))
+
 module _ (q : Sizes) (eq : q ≡ sizes Icepole128) (k n s f g o : Bytes) (num : ℕ)
     (e : num ≡ startNumber (sizes Icepole128) (length k) (length n) (length s) (length f + length g) (length o)) where
   is-start : num ≡ startRefusal k n s (f ++ g) o
-  unfolding startRefusal
-  is-start =
-      e ∙ ap (λ (a : ℕ). startNumber (sizes Icepole128) (length k) (length n) (length s) a (length o)) (sym (length-append f g))
+  is-start = start-number-of k n s f g o num e
 
   pub start-refused : (num ≡ 0 → ⊥) → (told num 0 notStarted ≡ startAnswer k n s (f ++ g) o) × (o ≡ startOutput k n s (f ++ g) o)
   unfolding startAnswer startOutput

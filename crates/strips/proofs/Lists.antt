@@ -3,10 +3,9 @@
 use mathlib.Core.Path.{_≡_, refl, sym, ap, ap₂, subst, _∙_}
 use mathlib.Core.Bool.{Bool, true, false}
 use mathlib.Core.List.{List, [], _∷_, _++_, append-assoc, append-nil}
-use mathlib.Core.Logic.{⊎-elim}
 use Prim.Native.Nat.{ℕ, zero, suc, _+_, _≤_}
 use native.Mathlib.Omega.{arith}
-use borrow.Author.Tests.{eq-eqb, ne-eqb}
+use borrow.Author.Tests.{ne-eqb}
 use lib.Dec.{eqb}
 use lib.ListN.{length, take, drop, length-append}
 use lib.Seq.{drop-append-add, drop-at, length-take-le, take-at}
@@ -15,15 +14,14 @@ use Rattle.bytes_le.proofs.Laws.{take-put}
 use Rattle.state_bytes.proofs.Lengths.{length-permuted}
 use Rattle.icepole.specs.declared.Variant.the-variants.{Icepole128}
 use Rattle.icepole.specs.Variants.{sizes}
-use Rattle.icepole.specs.Sealing.{_⊕_, absorbMessage, encrypt, keyed, pick, ready, sealed, tag}
+use Rattle.icepole.specs.Sealing.{_⊕_, keyed, pick, ready, sealed}
 use Rattle.icepole.specs.Answers.{maxLength, unless}
-use Rattle.icepole.proofs.Blocks.{length-encrypt}
 use Rattle.icepole.proofs.Opening.{length-keyed, length-ready}
 use Rattle.icepole.proofs.Xor.{length-xor}
 use Rattle.strips.specs.declared.StripState.{StripState}
 use Rattle.strips.specs.declared.StripAnswer.{StripAnswer}
 use Rattle.strips.specs.Machine.{Held, held, ended, fed, fedBytes, fillOf, finish}
-use Rattle.strips.specs.Answers.{afterEnd, afterStrip, answered, endAnswer, endNumber, endOutput, endRefusal, heldIn, notStarted, startAnswer, startNumber, startOutput, startRefusal, started, stripAnswer, stripNumber, stripOutput, stripRefusal}
+use Rattle.strips.specs.Answers.{afterEnd, afterStrip, answered, endAnswer, endNumber, endOutput, endRefusal, heldIn, notStarted, startAnswer, startOutput, startRefusal, started, stripAnswer, stripNumber, stripOutput, stripRefusal}
 use Rattle.strips.specs.Lists.{AllDone, Call, StripList, Piece, PlainMessage, StripLists, Told, accepted, afterCall, afterCalls, answerTo, countOf, cut, endOf, joined, lentTo, numberOf, outputOf, outputsFrom, partOf, plainAnswer, plainFrom, plainOf, plainOutputs, plainOutputsFrom, plainStart, plainTold, runOutputs, runTold, runWritten, sealing, startNumberOf, startTo, stripOf, toldBy, toldFrom, writtenFrom}
 use Rattle.strips.proofs.Machine.{bytes-join, fed-fill, fed-join, length-fed, whole-bytes, whole-tag}
 use Rattle.strips.proofs.Numbers.{StartFits, end-0, end-14, end-open, over, start-accepted, start-fits, strip-0, strip-14, strip-fits, takes}

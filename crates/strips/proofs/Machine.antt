@@ -2,7 +2,7 @@
 -- Assumes nothing.
 use mathlib.Core.Path.{_≡_, refl, sym, ap, ap₂, _∙_}
 use mathlib.Core.Bool.{Bool, true, false}
-use mathlib.Core.List.{List, [], _∷_, _++_, append-assoc, append-nil}
+use mathlib.Core.List.{[], _∷_, _++_, append-assoc, append-nil}
 use mathlib.Core.Logic.{_⊎_, ⊎-elim}
 use Prim.Native.Nat.{ℕ, zero, suc, _+_, _%_, _≤_, _<_, zero-le}
 use native.Mathlib.Nat.{add-zero, eq-or-lt-of-le, mod-lt}
@@ -10,11 +10,11 @@ use native.Mathlib.Omega.{arith}
 use borrow.Author.Tests.{eq-eqb, ne-eqb}
 use lib.Bits.{bitXor}
 use lib.Dec.{eqb}
-use lib.ListN.{length, getD, set, take, drop, length-append, length-drop, take-append-drop}
-use lib.Seq.{take-at, drop-at, append-snoc, length-take-le}
+use lib.ListN.{length, getD, take, drop, length-append, length-drop, take-append-drop}
+use lib.Seq.{length-take-le}
 use Rattle.bytes_le.specs.Bytes.{Bytes}
 use Rattle.icepole.specs.Sealing.{_⊕_, xorWith, absorb, absorbMessage, encrypt, pick, tag}
-use Rattle.icepole.proofs.Xor.{getD-xor-with, length-xor, xor-none, xor-snoc, xor-with-snoc}
+use Rattle.icepole.proofs.Xor.{getD-xor-with, xor-none, xor-snoc, xor-with-snoc}
 use Rattle.icepole.proofs.Steps.{padded}
 use Rattle.icepole.proofs.Blocks.{by-blocks, encrypt-last, encrypt-more, length-absorb, message-last, message-more}
 use Rattle.strips.specs.Machine.{Held, held, xorAt, finish, makeRoom, step, cipherByte, fed, fedBytes, fillOf, ended}

@@ -1,6 +1,6 @@
 -- What a turn of each loop over a strip does, and how the parts of a strip join.
 -- Assumes nothing.
-use mathlib.Core.Path.{_≡_, refl, sym, ap, ap₂, _∙_}
+use mathlib.Core.Path.{_≡_, sym, ap, ap₂, _∙_}
 use mathlib.Core.List.{[], _∷_, _++_}
 use Prim.Native.Nat.{ℕ, suc, _+_, _-_, _%_, _≤_, _<_}
 use native.Mathlib.Omega.{arith}
@@ -12,7 +12,7 @@ use Rattle.bytes_le.proofs.Laws.{put-put}
 use Rattle.icepole.specs.Sealing.{_⊕_, absorb}
 use Rattle.icepole.proofs.Steps.{length-part, part-snoc}
 use Rattle.icepole.proofs.Xor.{length-xor}
-use Rattle.strips.specs.Machine.{Held, held, xorAt, finish, makeRoom, step, cipherByte, fed, fedBytes, fillOf}
+use Rattle.strips.specs.Machine.{Held, held, xorAt, finish, makeRoom, fed, fedBytes, fillOf}
 use Rattle.strips.proofs.Machine.{across, bytes-join, bytes-more, fed-join, fed-more, length-fed, room-within}
 
 -- ---- one byte more within a block: j bytes of m from at on are done, and b holds them

@@ -1,7 +1,7 @@
 -- What start, strip and end answer and leave in the lent output, for good and bad calls (01, "Afterwards" and "Turned down, by example"). ICEPOLE-128.
 -- Assumes nothing.
 use mathlib.Core.Bool.{Bool, true, false, not, _||_}
-use mathlib.Core.List.{List, [], _∷_}
+use mathlib.Core.List.{[], _∷_}
 use Prim.Native.Nat.{ℕ, _+_}
 use lib.Dec.{eqb, ltb}
 use lib.ListN.{length, replicate}

@@ -1,6 +1,6 @@
 -- A message in strips (01, "Afterwards"), byte by byte, in blocks of r bytes. A block that is full waits until one more byte comes, for its frame bit says whether it was the last.
 -- Assumes nothing.
-use mathlib.Core.List.{List, [], _∷_}
+use mathlib.Core.List.{[], _∷_}
 use Prim.Native.Nat.{ℕ, zero, suc, _+_, _%_}
 use lib.Bits.{bitXor}
 use lib.Dec.{eqb}

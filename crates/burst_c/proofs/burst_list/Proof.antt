@@ -1,6 +1,6 @@
 -- `burst_c::burst_list` meets its contract: by what the listing answers.
 -- Assumes nothing.
-use mathlib.Core.Path.{_≡_, ap, _∙_}
+use mathlib.Core.Path.{ap}
 use native.Mathlib.Omega.{arith}
 use borrow.Author.Needs.{needs}
 use Rattle.listing.specs.declared.Listed.{Listed}

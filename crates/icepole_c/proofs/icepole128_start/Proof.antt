@@ -1,11 +1,9 @@
 -- `icepole_c::icepole128_start` meets its contract: by what start answers, where the state is long enough.
 -- Assumes nothing.
-use mathlib.Core.Path.{_≡_, sym, ap, _∙_}
 use mathlib.Core.List.{_++_}
-use Prim.Native.Nat.{ℕ}
 use borrow.Author.Needs.{needs}
-use lib.ListN.{length, length-append}
-use Rattle.icepole_c.proofs.StripCalls.{start-called, start-number-of, start-short, start-short-refused}
+use Rattle.strips.proofs.Answers.{start-number-of}
+use Rattle.icepole_c.proofs.StripCalls.{start-called, start-short, start-short-refused}
 use Rattle.icepole_c.proofs.icepole128_start.Statement.{statement}
 use Rattle.icepole_c.proofs.icepole128_start.Tie as tie
 

@@ -3,7 +3,7 @@
 use native.Mathlib.Omega.{arith}
 use borrow.Author.Needs.{needs}
 use Rattle.listing.specs.Text.{ascii}
-use Rattle.listing.proofs.Puts.{Put, field-length, head-put}
+use Rattle.listing.proofs.Puts.{field-length, head-put}
 use Rattle.listing.proofs.put_head.Statement.{statement}
 use Rattle.listing.proofs.put_head.Tie as tie
 

@@ -1,12 +1,12 @@
 -- `listing::put_listing` meets its contract: the text that each test leaves.
 -- Assumes nothing.
-use mathlib.Core.Path.{_≡_, refl, sym, ap, _∙_}
+use mathlib.Core.Path.{sym, ap, _∙_}
 use native.Mathlib.Nat.{zero-add}
 use native.Mathlib.Omega.{arith}
 use borrow.Author.Needs.{needs}
 use borrow.Author.Tests.{not-true, not-false}
 use lib.ListN.{length}
-use Rattle.bytes_le.specs.Bytes.{Bytes, putBytes}
+use Rattle.bytes_le.specs.Bytes.{putBytes}
 use Rattle.reader.proofs.Rules.{front, reads}
 use Rattle.listing.proofs.Lines.{broken-listing, front-listing, front-put, head-length, long-listing}
 use Rattle.listing.proofs.put_listing.Statement.{statement}

@@ -3,7 +3,7 @@
 use native.Mathlib.Omega.{arith}
 use borrow.Author.Needs.{needs}
 use Rattle.listing.specs.Text.{ascii}
-use Rattle.listing.proofs.Puts.{Put, field-length, shot-put}
+use Rattle.listing.proofs.Puts.{field-length, shot-put}
 use Rattle.listing.proofs.put_shot.Statement.{statement}
 use Rattle.listing.proofs.put_shot.Tie as tie
 

@@ -2,7 +2,6 @@
 -- Assumes nothing.
 use mathlib.Core.Path.{sym, ap}
 use native.Mathlib.Omega.{arith}
-use borrow.Author.Needs.{needs}
 use Rattle.strips.specs.Machine.{fillOf}
 use Rattle.strips.proofs.Turns.{fill-of-some}
 use Rattle.strips.proofs.fill_of.Statement.{statement}

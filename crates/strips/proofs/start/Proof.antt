@@ -1,10 +1,7 @@
 -- `strips::start` meets its contract: a number that is not 0 is the answer, and number 0 tells all that `seal_ready` wants.
 -- Assumes nothing.
-use mathlib.Core.Path.{_≡_, refl, sym, ap, _∙_}
-use mathlib.Core.List.{_++_}
-use native.Mathlib.Omega.{arith}
+use mathlib.Core.Path.{refl, sym, _∙_}
 use borrow.Author.Needs.{needs}
-use Rattle.icepole.specs.Bounds.{Bounded}
 use Rattle.icepole.specs.declared.Variant.the-variants.{Icepole128}
 use Rattle.icepole.proofs.Bounds.{bounded-by}
 use Rattle.strips.proofs.Answers.{start-done, start-refused}

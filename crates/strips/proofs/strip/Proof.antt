@@ -1,10 +1,10 @@
 -- `strips::strip` meets its contract: a number that is not 0 is the answer, and number 0 tells that the strip fits.
 -- Assumes nothing.
-use mathlib.Core.Path.{_≡_, sym, ap, _∙_}
+use mathlib.Core.Path.{sym, ap, _∙_}
 use Prim.Native.Nat.{ℕ}
 use native.Mathlib.Omega.{arith}
 use borrow.Author.Needs.{needs}
-use Rattle.bytes_le.specs.Bytes.{Bytes, putBytes}
+use Rattle.bytes_le.specs.Bytes.{putBytes}
 use Rattle.strips.specs.Machine.{held, fed, fedBytes}
 use Rattle.strips.proofs.Answers.{strip-done, strip-refused}
 use Rattle.strips.proofs.Numbers.{strip-fits}
