@@ -1,9 +1,9 @@
 -- The calls' answers and buffers: what a number that is not 0 makes of them, and what number 0 does.
 -- Assumes nothing.
-use mathlib.Core.Bool.{Bool, true, false}
+use mathlib.Core.Bool.{true, false}
 use mathlib.Core.List.{_++_}
-use mathlib.Core.Path.{_≡_, refl, sym, ap, _∙_}
-use Prim.Native.Nat.{ℕ, suc, _+_, _*_}
+use mathlib.Core.Path.{_≡_, sym, ap, _∙_}
+use Prim.Native.Nat.{ℕ, _+_, _-_}
 use borrow.Author.Tests.{ne-eqb}
 use lib.ListN.{length, replicate, set}
 use Rattle.bytes_le.specs.Bytes.{Bytes, putBytes}
@@ -12,10 +12,12 @@ use Rattle.burst.specs.declared.Recorder.{Recorder}
 use Rattle.burst.specs.declared.Begun.{Begun}
 use Rattle.burst.specs.declared.ShotAnswer.{ShotAnswer}
 use Rattle.burst.specs.declared.Closed.{Closed}
-use Rattle.burst.specs.Layout.{edition1, Identity, recordBytes}
+use Rattle.burst.specs.declared.Edition.{Edition}
+use Rattle.burst.specs.Editions.{written}
+use Rattle.burst.specs.Layout.{Identity, headerBytes, recordBytes, closingSeal}
 use Rattle.burst.specs.Numbers.{usedAfter, totalFrom, beginNumber, keepNumber, dropNumber, closeNumber}
 use Rattle.burst.specs.Index.{entryOf}
-use Rattle.burst.specs.Recorder.{isSound, newRecorder, noRecorder, beginRefused, beginAnswer, beginBuffer, dropRefused, afterDrop, dropAnswer, keepRefused, afterKeep, keepAnswer, keepBuffer, closeRefused, afterClose, closeAnswer, closeBuffer, recorderHeader, recorderIndex, recorderSeal}
+use Rattle.burst.specs.Recorder.{editionOf, nameOf, identityOf, isSound, newRecorder, noRecorder, beginRefused, beginAnswer, beginBuffer, dropRefused, afterDrop, dropAnswer, keepRefused, afterKeep, keepAnswer, keepBuffer, closeRefused, afterClose, closeAnswer, closeBuffer, recorderHeader, recorderIndex, recorderSeal}
 
 abbrev begunWith : ℕ → Recorder → Begun
 begunWith num r = record { refusal = num; mark = 0; recorder = r }
@@ -26,59 +28,99 @@ shotWith num shot r = record { refusal = num; mark = 0; shot = record { 0 = shot
 abbrev closedWith : ℕ → ℕ → Recorder → Closed
 closedWith num total r = record { refusal = num; mark = 0; total = total; recorder = r }
 
+-- the numbers are worked out at a row e that is the call's own
 -- ---- begin
-module _ (key : Bytes) (i : Identity) (b : Bytes) where
+module _ (key : Bytes) (i : Identity) (b : Bytes) (e : Edition) (own : e ≡ written (length key)) where
   abbrev Begins : ℕ
-  Begins = beginNumber edition1 (length key) (length (i .siteMark)) (length b)
+  Begins = beginNumber e (length key) (length (i .siteMark)) (length b)
 
-  pub begin-refused : (num : ℕ) → num ≡ Begins → (num ≡ 0 → ⊥) → (r : Recorder) → r ≡ newRecorder (replicate 16 0) (record { burstNumber = 0; siteMark = replicate 16 0 }) 0 true
+  begins-own : Begins ≡ beginRefused key i b
+  unfolding beginRefused
+  begins-own = ap (λ (x : Edition). beginNumber x (length key) (length (i .siteMark)) (length b)) own
+
+  pub begin-refused : (num : ℕ) → num ≡ Begins → (num ≡ 0 → ⊥) → (r : Recorder) → r ≡ newRecorder (replicate 16 0) (record { name = record { burst = 0 }; siteMark = replicate 16 0 }) 0 true
       → (begunWith num r ≡ beginAnswer key i b) × (b ≡ beginBuffer key i b)
-  unfolding beginAnswer beginBuffer beginRefused noRecorder
-  begin-refused num e h r f =
-      (ap (begunWith num) f ∙ sym (simp (sym e, ne-eqb num 0 h)), sym (simp (sym e, ne-eqb num 0 h)))
+  unfolding beginAnswer beginBuffer noRecorder
+  begin-refused num n h r f =
+      let z = sym (n ∙ begins-own) in
+      (ap (begunWith num) f ∙ sym (simp (z, ne-eqb num 0 h)), sym (simp (z, ne-eqb num 0 h)))
 
-  pub begin-done : Begins ≡ 0 → (r : Recorder) → r ≡ newRecorder key i 32 false → (b′ : Bytes) → b′ ≡ putBytes b 0 (replicate 32 0)
+  pub begin-done : Begins ≡ 0 → (r : Recorder) → r ≡ newRecorder key i (e .header) false → (b′ : Bytes) → b′ ≡ putBytes b 0 (replicate (e .header) 0)
       → (begunWith 0 r ≡ beginAnswer key i b) × (b′ ≡ beginBuffer key i b)
-  unfolding beginAnswer beginBuffer beginRefused
-  begin-done e r f b′ g = (ap (begunWith 0) f ∙ sym (simp e), g ∙ sym (simp e))
+  unfolding beginAnswer beginBuffer
+  begin-done n r f b′ g =
+      let z = sym begins-own ∙ n in (
+        ap (begunWith 0) (f ∙ ap (λ (x : Edition). newRecorder key i (x .header) false) own) ∙ sym (simp z),
+        g ∙ ap (λ (x : Edition). putBytes b 0 (replicate (x .header) 0)) own ∙ sym (simp z),
+      )
 
--- ---- drop
-module _ (r : Recorder) where
-  pub drop-refused : (num : ℕ) → num ≡ dropNumber edition1 (isSound r) (r .taken .0) → (num ≡ 0 → ⊥) → shotWith num 0 r ≡ dropAnswer r
-  unfolding dropAnswer dropRefused
-  drop-refused num e h = sym (simp (sym e, ne-eqb num 0 h))
+module _ (r : Recorder) (e : Edition) (own : e ≡ editionOf r) where
+  -- ---- drop
+  abbrev Drops : ℕ
+  Drops = dropNumber e (isSound e r) (r .taken .0)
 
-  pub drop-done : dropNumber edition1 (isSound r) (r .taken .0) ≡ 0 → shotWith 0 (r .taken .0 + 1) (afterDrop r) ≡ dropAnswer r
-  unfolding dropAnswer dropRefused
-  drop-done e = sym (simp e)
+  drops-own : Drops ≡ dropRefused r
+  unfolding dropRefused
+  drops-own = ap (λ (x : Edition). dropNumber x (isSound x r) (r .taken .0)) own
 
--- ---- keep
-module _ (r : Recorder) (s p b : Bytes) where
-  abbrev Keeps : ℕ
-  Keeps = keepNumber edition1 (isSound r) (r .taken .0) (r .kept .0) (r .used) (length s) (length p) (length b)
+  pub drop-refused : (num : ℕ) → num ≡ Drops → (num ≡ 0 → ⊥) → shotWith num 0 r ≡ dropAnswer r
+  unfolding dropAnswer
+  drop-refused num n h = sym (simp (sym (n ∙ drops-own), ne-eqb num 0 h))
 
-  pub keep-refused : (num : ℕ) → num ≡ Keeps → (num ≡ 0 → ⊥) → (shotWith num 0 r ≡ keepAnswer r s p b) × (b ≡ keepBuffer r s p b)
-  unfolding keepAnswer keepBuffer keepRefused
-  keep-refused num e h = (sym (simp (sym e, ne-eqb num 0 h)), sym (simp (sym e, ne-eqb num 0 h)))
+  pub drop-done : Drops ≡ 0 → shotWith 0 (r .taken .0 + 1) (afterDrop r) ≡ dropAnswer r
+  unfolding dropAnswer
+  drop-done n = sym (simp (sym drops-own ∙ n))
 
-  pub keep-done : Keeps ≡ 0 → (next : Recorder) → next ≡ afterKeep r (length p) → (b′ : Bytes) → b′ ≡ putBytes b (r .used) (recordBytes (r .key) (r .«burst_number») (r .taken .0 + 1) (r .used) s p)
-      → (shotWith 0 (next .taken .0) next ≡ keepAnswer r s p b) × (b′ ≡ keepBuffer r s p b)
-  unfolding keepAnswer keepBuffer keepRefused afterKeep
-  keep-done e next f b′ g = (ap (λ (n : Recorder). shotWith 0 (n .taken .0) n) f ∙ sym (simp e), g ∙ sym (simp e))
+  -- ---- keep
+  module _ (s p b : Bytes) where
+    abbrev Keeps : ℕ
+    Keeps = keepNumber e (isSound e r) (r .taken .0) (r .kept .0) (r .used) (length s) (length p) (length b)
 
--- ---- close
-module _ (r : Recorder) (b : Bytes) where
-  abbrev Closes : ℕ
-  Closes = closeNumber (isSound r) (r .kept .0) (r .used) (length b)
+    keeps-own : Keeps ≡ keepRefused r s p b
+    unfolding keepRefused
+    keeps-own = ap (λ (x : Edition). keepNumber x (isSound x r) (r .taken .0) (r .kept .0) (r .used) (length s) (length p) (length b)) own
 
-  pub close-refused : (num : ℕ) → num ≡ Closes → (num ≡ 0 → ⊥) → (closedWith num 0 r ≡ closeAnswer r b) × (b ≡ closeBuffer r b)
-  unfolding closeAnswer closeBuffer closeRefused
-  close-refused num e h = (sym (simp (sym e, ne-eqb num 0 h)), sym (simp (sym e, ne-eqb num 0 h)))
+    pub keep-refused : (num : ℕ) → num ≡ Keeps → (num ≡ 0 → ⊥) → (shotWith num 0 r ≡ keepAnswer r s p b) × (b ≡ keepBuffer r s p b)
+    unfolding keepAnswer keepBuffer
+    keep-refused num n h =
+        let z = sym (n ∙ keeps-own) in (sym (simp (z, ne-eqb num 0 h)), sym (simp (z, ne-eqb num 0 h)))
 
-  pub close-done : Closes ≡ 0 → (b′ : Bytes) → b′ ≡ putBytes (putBytes b 0 (recorderHeader r)) (r .used) (recorderIndex r ++ recorderSeal r)
-      → (closedWith 0 (totalFrom (r .used) (r .kept .0)) (afterClose r) ≡ closeAnswer r b) × (b′ ≡ closeBuffer r b)
-  unfolding closeAnswer closeBuffer closeRefused
-  close-done e b′ g = (sym (simp e), g ∙ sym (simp e))
+    pub keep-done : Keeps ≡ 0 → (next : Recorder) → next ≡ afterKeep r (length p) → (b′ : Bytes) → b′ ≡ putBytes b (r .used) (recordBytes e (r .key) (nameOf r) (r .taken .0 + 1) (r .used) s p)
+        → (shotWith 0 (next .taken .0) next ≡ keepAnswer r s p b) × (b′ ≡ keepBuffer r s p b)
+    unfolding keepAnswer keepBuffer afterKeep
+    keep-done n next f b′ g =
+        let z = sym keeps-own ∙ n in (
+          ap (λ (n : Recorder). shotWith 0 (n .taken .0) n) f ∙ sym (simp z),
+          g ∙ ap (λ (x : Edition). putBytes b (r .used) (recordBytes x (r .key) (nameOf r) (r .taken .0 + 1) (r .used) s p)) own ∙ sym (simp z),
+        )
+
+  -- ---- close
+  abbrev headerAt : Edition → Bytes
+  headerAt x = headerBytes x (nameOf r) (r .taken .0) (r .kept .0) (r .taken .0 - r .kept .0) (r .used)
+
+  module _ (b : Bytes) where
+    abbrev Closes : ℕ
+    Closes = closeNumber (isSound e r) (r .kept .0) (r .used) (length b)
+
+    closes-own : Closes ≡ closeRefused r b
+    unfolding closeRefused
+    closes-own = ap (λ (x : Edition). closeNumber (isSound x r) (r .kept .0) (r .used) (length b)) own
+
+    pub close-refused : (num : ℕ) → num ≡ Closes → (num ≡ 0 → ⊥) → (closedWith num 0 r ≡ closeAnswer r b) × (b ≡ closeBuffer r b)
+    unfolding closeAnswer closeBuffer
+    close-refused num n h =
+        let z = sym (n ∙ closes-own) in (sym (simp (z, ne-eqb num 0 h)), sym (simp (z, ne-eqb num 0 h)))
+
+    pub close-done : Closes ≡ 0 → (b′ : Bytes) → b′ ≡ putBytes (putBytes b 0 (headerAt e)) (r .used) (recorderIndex r ++ closingSeal e (r .key) (identityOf r) (headerAt e) (recorderIndex r))
+        → (closedWith 0 (totalFrom (r .used) (r .kept .0)) (afterClose r) ≡ closeAnswer r b) × (b′ ≡ closeBuffer r b)
+    unfolding closeAnswer closeBuffer recorderHeader recorderSeal
+    close-done n b′ g =
+        let z = sym closes-own ∙ n in (
+          sym (simp z),
+          g
+              ∙ ap (λ (x : Edition). putBytes (putBytes b 0 (headerAt x)) (r .used) (recorderIndex r ++ closingSeal x (r .key) (identityOf r) (headerAt x) (recorderIndex r))) own
+              ∙ sym (simp z),
+        )
 
 -- ---- the recorder after a picture, built field by field with the entry e
 pub kept-with : (r : Recorder) (n : ℕ) (e : Entry) → e ≡ entryOf (r .taken .0 + 1) (r .used) n

@@ -1,5 +1,6 @@
+pub mod Rows
 pub mod Rules
 pub mod Numbers
 pub mod Puts
 pub mod Answers
-pub mod Sealer
+pub mod Parts

@@ -1,52 +1,52 @@
 -- The refusal numbers from plain facts, one law for each refusal in document 01's order, and what number 0 tells.
 -- Assumes nothing.
 use mathlib.Core.Bool.{Bool, true, false, not, _||_}
-use mathlib.Core.Path.{_≡_, refl, sym, ap, _∙_}
-use Prim.Native.Nat.{ℕ, suc, _+_, _*_, _≤_, _<_}
-use native.Mathlib.Omega.{arith}
+use mathlib.Core.Path.{_≡_, sym}
+use Prim.Native.Nat.{ℕ, _+_, _*_, _≤_, _<_}
 use borrow.Author.Tests.{le-leb, lt-leb, eq-eqb, ne-eqb, lt-ltb, le-ltb, leb-false, ltb-false, eqb-true, not-false}
 use lib.Dec.{eqb, leb, ltb}
 use Rattle.icepole.proofs.Numbers.{passed, neither}
-use Rattle.burst.specs.Layout.{edition1, maxPicture}
+use Rattle.burst.specs.declared.Edition.{Edition}
+use Rattle.burst.specs.Layout.{maxPicture}
 use Rattle.burst.specs.Numbers.{usedAfter, totalFrom, beginNumber, keepNumber, dropNumber, closeNumber}
 
 -- ---- begin
-module _ (k m b : ℕ) where
-  pub begin-1 : (k ≡ 16 → ⊥) → 1 ≡ beginNumber edition1 k m b
+module _ (e : Edition) (k m b : ℕ) where
+  pub begin-1 : (k ≡ 16 → ⊥) → 1 ≡ beginNumber e k m b
   unfolding beginNumber
   begin-1 h = sym (simp (ne-eqb k 16 h))
 
   module _ (h₁ : k ≡ 16) where
-    pub begin-3 : (m ≡ 16 → ⊥) → 3 ≡ beginNumber edition1 k m b
+    pub begin-3 : (m ≡ 16 → ⊥) → 3 ≡ beginNumber e k m b
     unfolding beginNumber
     begin-3 h = sym (simp (eq-eqb k 16 h₁, ne-eqb m 16 h))
 
     module _ (h₂ : m ≡ 16) where
-      pub begin-11 : b < 64 → 11 ≡ beginNumber edition1 k m b
+      pub begin-11 : b < e .header + 12 * 0 + 32 → 11 ≡ beginNumber e k m b
       unfolding beginNumber
-      begin-11 h = sym (simp (eq-eqb k 16 h₁, eq-eqb m 16 h₂, lt-ltb b 64 h))
+      begin-11 h = sym (simp (eq-eqb k 16 h₁, eq-eqb m 16 h₂, lt-ltb b (e .header + 12 * 0 + 32) h))
 
-      pub begin-0 : 64 ≤ b → 0 ≡ beginNumber edition1 k m b
+      pub begin-0 : e .header + 12 * 0 + 32 ≤ b → 0 ≡ beginNumber e k m b
       unfolding beginNumber
-      begin-0 h = sym (simp (eq-eqb k 16 h₁, eq-eqb m 16 h₂, le-ltb b 64 h))
+      begin-0 h = sym (simp (eq-eqb k 16 h₁, eq-eqb m 16 h₂, le-ltb b (e .header + 12 * 0 + 32) h))
 
-pub record Begins (k m b : ℕ) : Type 0 where
+pub record Begins (e : Edition) (k m b : ℕ) : Type 0 where
   pub key : k ≡ 16
   pub mark : m ≡ 16
-  pub room : 64 ≤ b
+  pub room : e .header + 12 * 0 + 32 ≤ b
 
-pub begins : (k m b : ℕ) → beginNumber edition1 k m b ≡ 0 → Begins k m b
+pub begins : (e : Edition) (k m b : ℕ) → beginNumber e k m b ≡ 0 → Begins e k m b
 unfolding beginNumber
-begins k m b h =
+begins e k m b h =
     let p₁ = passed (not (eqb k 16)) _ _ h in
     let p₃ = passed (not (eqb m 16)) _ _ (p₁ .1) in
-    let p₁₁ = passed (ltb b 64) _ _ (p₃ .1) in
+    let p₁₁ = passed (ltb b (e .header + 12 * 0 + 32)) _ _ (p₃ .1) in
     record { key = eqb-true _ _ (not-false _ (p₁ .0)); mark = eqb-true _ _ (not-false _ (p₃ .0)); room = ltb-false _ _ (p₁₁ .0) }
 
 -- ---- keep: s whether sound, t taken, k kept, u used, m stamp, p picture, b buffer
-module _ (s : Bool) (t k u m p b : ℕ) where
+module _ (e : Edition) (s : Bool) (t k u m p b : ℕ) where
   abbrev N : ℕ
-  N = keepNumber edition1 s t k u m p b
+  N = keepNumber e s t k u m p b
 
   pub keep-8 : s ≡ false → 8 ≡ N
   unfolding keepNumber
@@ -58,43 +58,43 @@ module _ (s : Bool) (t k u m p b : ℕ) where
     keep-3 h = sym (simp (h₁, ne-eqb m 16 h))
 
     module _ (h₂ : m ≡ 16) where
-      pub keep-9 : 60 ≤ t → 9 ≡ N
+      pub keep-9 : e .shots ≤ t → 9 ≡ N
       unfolding keepNumber
-      keep-9 h = sym (simp (h₁, eq-eqb m 16 h₂, le-leb 60 t h))
+      keep-9 h = sym (simp (h₁, eq-eqb m 16 h₂, le-leb (e .shots) t h))
 
-      module _ (h₃ : t < 60) where
+      module _ (h₃ : t < e .shots) where
         pub keep-10 : p < 1 → 10 ≡ N
         unfolding keepNumber
-        keep-10 h = sym (simp (h₁, eq-eqb m 16 h₂, lt-leb 60 t h₃, lt-ltb p 1 h))
+        keep-10 h = sym (simp (h₁, eq-eqb m 16 h₂, lt-leb (e .shots) t h₃, lt-ltb p 1 h))
 
         module _ (h₄ : 1 ≤ p) where
           pub keep-10′ : maxPicture < p → 10 ≡ N
           unfolding keepNumber
-          keep-10′ h = sym (simp (h₁, eq-eqb m 16 h₂, lt-leb 60 t h₃, le-ltb p 1 h₄, lt-ltb maxPicture p h))
+          keep-10′ h = sym (simp (h₁, eq-eqb m 16 h₂, lt-leb (e .shots) t h₃, le-ltb p 1 h₄, lt-ltb maxPicture p h))
 
           module _ (h₅ : p ≤ maxPicture) where
             pub keep-11 : b < totalFrom (usedAfter u p) (k + 1) → 11 ≡ N
             unfolding keepNumber
-            keep-11 h = sym (simp (h₁, eq-eqb m 16 h₂, lt-leb 60 t h₃, le-ltb p 1 h₄, le-ltb maxPicture p h₅, lt-ltb b (totalFrom (usedAfter u p) (k + 1)) h))
+            keep-11 h = sym (simp (h₁, eq-eqb m 16 h₂, lt-leb (e .shots) t h₃, le-ltb p 1 h₄, le-ltb maxPicture p h₅, lt-ltb b (totalFrom (usedAfter u p) (k + 1)) h))
 
             pub keep-0 : totalFrom (usedAfter u p) (k + 1) ≤ b → 0 ≡ N
             unfolding keepNumber
-            keep-0 h = sym (simp (h₁, eq-eqb m 16 h₂, lt-leb 60 t h₃, le-ltb p 1 h₄, le-ltb maxPicture p h₅, le-ltb b (totalFrom (usedAfter u p) (k + 1)) h))
+            keep-0 h = sym (simp (h₁, eq-eqb m 16 h₂, lt-leb (e .shots) t h₃, le-ltb p 1 h₄, le-ltb maxPicture p h₅, le-ltb b (totalFrom (usedAfter u p) (k + 1)) h))
 
-pub record Keeps (s : Bool) (t k u m p b : ℕ) : Type 0 where
+pub record Keeps (e : Edition) (s : Bool) (t k u m p b : ℕ) : Type 0 where
   pub sound : s ≡ true
   pub stamp : m ≡ 16
-  pub more : t < 60
+  pub more : t < e .shots
   pub least : 1 ≤ p
   pub most : p ≤ 1048576
   pub room : u + p + 32 + 12 * (k + 1) + 32 ≤ b
 
-pub keeps : (s : Bool) (t k u m p b : ℕ) → keepNumber edition1 s t k u m p b ≡ 0 → Keeps s t k u m p b
+pub keeps : (e : Edition) (s : Bool) (t k u m p b : ℕ) → keepNumber e s t k u m p b ≡ 0 → Keeps e s t k u m p b
 unfolding keepNumber
-keeps s t k u m p b h =
+keeps e s t k u m p b h =
     let p₈ = passed (not s) _ _ h in
     let p₃ = passed (not (eqb m 16)) _ _ (p₈ .1) in
-    let p₉ = passed (leb 60 t) _ _ (p₃ .1) in
+    let p₉ = passed (leb (e .shots) t) _ _ (p₃ .1) in
     let p₁₀ = passed (ltb p 1 || ltb maxPicture p) _ _ (p₉ .1) in
     let p₁₁ = passed (ltb b (totalFrom (usedAfter u p) (k + 1))) _ _ (p₁₀ .1) in
     let d = neither (ltb p 1) (ltb maxPicture p) (p₁₀ .0) in
@@ -108,25 +108,25 @@ keeps s t k u m p b h =
     }
 
 -- ---- drop
-module _ (s : Bool) (t : ℕ) where
-  pub drop-8 : s ≡ false → 8 ≡ dropNumber edition1 s t
+module _ (e : Edition) (s : Bool) (t : ℕ) where
+  pub drop-8 : s ≡ false → 8 ≡ dropNumber e s t
   unfolding dropNumber
   drop-8 h = sym (simp h)
 
   module _ (h₁ : s ≡ true) where
-    pub drop-9 : 60 ≤ t → 9 ≡ dropNumber edition1 s t
+    pub drop-9 : e .shots ≤ t → 9 ≡ dropNumber e s t
     unfolding dropNumber
-    drop-9 h = sym (simp (h₁, le-leb 60 t h))
+    drop-9 h = sym (simp (h₁, le-leb (e .shots) t h))
 
-    pub drop-0 : t < 60 → 0 ≡ dropNumber edition1 s t
+    pub drop-0 : t < e .shots → 0 ≡ dropNumber e s t
     unfolding dropNumber
-    drop-0 h = sym (simp (h₁, lt-leb 60 t h))
+    drop-0 h = sym (simp (h₁, lt-leb (e .shots) t h))
 
-pub drops : (s : Bool) (t : ℕ) → dropNumber edition1 s t ≡ 0 → (s ≡ true) × (t < 60)
+pub drops : (e : Edition) (s : Bool) (t : ℕ) → dropNumber e s t ≡ 0 → (s ≡ true) × (t < e .shots)
 unfolding dropNumber
-drops s t h =
+drops e s t h =
     let p₈ = passed (not s) _ _ h in
-    let p₉ = passed (leb 60 t) _ _ (p₈ .1) in
+    let p₉ = passed (leb (e .shots) t) _ _ (p₈ .1) in
     (not-false _ (p₈ .0), leb-false _ _ (p₉ .0))
 
 -- ---- close

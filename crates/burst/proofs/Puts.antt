@@ -2,18 +2,20 @@
 -- Assumes nothing.
 use mathlib.Core.List.{List, [], _∷_, _++_, append-assoc, append-nil}
 use mathlib.Core.Path.{_≡_, refl, sym, ap, _∙_}
-use Prim.Native.Nat.{ℕ, suc, _+_, _-_, _*_, _≤_, _<_}
+use Prim.Native.Nat.{ℕ, zero, suc, _+_, _-_, _*_, _≤_, _<_}
 use native.Mathlib.Omega.{arith}
 use native.Mathlib.Numerals.{add-one}
-use lib.ListN.{length, take, drop, getD, replicate}
-use lib.Seq.{take-suc}
+use lib.ListN.{length, take, getD, replicate, length-replicate}
+use lib.Seq.{take-suc, take-append-add}
 use Rattle.bytes_le.specs.Bytes.{Bytes, putBytes, le}
-use Rattle.bytes_le.proofs.Laws.{put-put, put-whole, take-put}
+use Rattle.bytes_le.proofs.Laws.{put-put, take-put}
 use Rattle.burst.specs.declared.Entry.{Entry}
-use Rattle.burst.specs.declared.Recorder.{Recorder}
-use Rattle.burst.specs.Layout.{edition1, nonceOf, entryBytes, headerBytes}
+use Rattle.burst.specs.declared.Edition.{Edition}
+use Rattle.burst.specs.declared.Name.{Name}
+use Rattle.burst.specs.Editions.{maxHeader, fieldsLength, Known}
+use Rattle.burst.specs.Parts.{nonceOf}
+use Rattle.burst.specs.Layout.{entryBytes, headerRest, headerBytes}
 use Rattle.burst.specs.Index.{bytesOfEntry, indexBytes}
-use Rattle.burst.specs.Recorder.{recorderHeader}
 
 -- one more run
 pub grow : (l h h′ acc b : Bytes) (at n : ℕ) → h ≡ putBytes l at acc → h′ ≡ putBytes h n b → n ≡ at + length acc → n + length b ≤ length l
@@ -28,17 +30,29 @@ pub length-entry-of : (e : Entry) → length (bytesOfEntry e) ≡ 12
 unfolding bytesOfEntry
 length-entry-of e = length-entry (e .shot .0) (e .zeros) (e .offset) (e .length)
 
-pub length-header : (t k d n u : ℕ) → length (headerBytes edition1 t k d n u) ≡ 32
+pub length-rest : (e : Edition) (name : Name) → length (headerRest e name) ≡ e .header - fieldsLength
+unfolding headerRest
+length-rest e name = length-replicate (e .header - fieldsLength) 0
+
+pub length-header : (e : Edition) → Known e → (name : Name) (t k d u : ℕ) → length (headerBytes e name t k d u) ≡ e .header
 unfolding headerBytes
-length-header t k d n u = refl
+length-header e w name t k d u = let h = length-rest e name in let g = w .least in omega arith
 
-pub length-recorder-header : (r : Recorder) → length (recorderHeader r) ≡ 32
-unfolding recorderHeader
-length-recorder-header r = length-header (r .taken .0) (r .kept .0) (r .taken .0 - r .kept .0) (r .«burst_number») (r .used)
-
-pub length-nonce : (b s : ℕ) → length (nonceOf b s) ≡ 16
+pub length-nonce : (e : Edition) (name : Name) (s : ℕ) → length (nonceOf e name s) ≡ 16
 unfolding nonceOf
-length-nonce b s = refl
+length-nonce e name s = refl
+
+pub take-zeros : (n m : ℕ) → n ≤ m → take {A = ℕ} n (replicate m 0) ≡ replicate n 0
+take-zeros zero m h = refl
+take-zeros (suc n) zero h = absurd (omega arith)
+take-zeros (suc n) (suc m) h = ap (λ (r : Bytes). 0 ∷ r) (take-zeros n m (omega arith))
+
+-- a row's header of zeros, at the front of the longest
+pub header-zeros : (e : Edition) → Known e → take {A = ℕ} (e .header) (replicate maxHeader 0) ≡ replicate (e .header) 0
+header-zeros e w = take-zeros (e .header) maxHeader (w .header)
+
+pub length-zeros : (e : Edition) → Known e → length (take {A = ℕ} (e .header) (replicate maxHeader 0)) ≡ e .header
+length-zeros e w = ap length (header-zeros e w) ∙ length-replicate (e .header) 0
 
 -- the entry's four fields
 pub entry-put : (l h₁ h₂ h₃ h₄ : Bytes) (at a b c s z p n : ℕ) → at + 12 ≤ length l
@@ -51,27 +65,53 @@ entry-put l h₁ h₂ h₃ h₄ at a b c s z p n h e₁ g₁ e₂ g₂ e₃ g₃
     (grow l h₁ h₂ (le 2 s) (le 2 z) at a e₁ e₂ g₁ (omega arith)) e₃ (omega arith) (omega arith)) e₄ (omega arith) (omega arith)
 
 -- the nonce's fields, over zeros
-pub nonce-put : (h₁ h₂ : Bytes) (b s i : ℕ) → i ≡ 8 → h₁ ≡ putBytes (replicate 16 0) 0 (le 8 b) → h₂ ≡ putBytes h₁ i (le 2 s) → h₂ ≡ nonceOf b s
+pub nonce-put : (e : Edition) (name : Name) (h₁ h₂ : Bytes) (s i : ℕ) → i ≡ 8 → h₁ ≡ putBytes (replicate 16 0) 0 (le 8 (name .burst)) → h₂ ≡ putBytes h₁ i (le 2 s)
+    → h₂ ≡ nonceOf e name s
 unfolding nonceOf putBytes
-nonce-put h₁ h₂ b s i g e f = grow (replicate 16 0) h₁ h₂ (le 8 b) (le 2 s) 0 8 e (f ∙ ap (λ (k : ℕ). putBytes h₁ k (le 2 s)) g) refl (omega arith)
+nonce-put e name h₁ h₂ s i g p f =
+    grow (replicate 16 0) h₁ h₂ (le 8 (name .burst)) (le 2 s) 0 8 p (f ∙ ap (λ (k : ℕ). putBytes h₁ k (le 2 s)) g) refl (omega arith)
 
--- the header's nine fields, over any 32 bytes
-pub header-put : (l h₁ h₂ h₃ h₄ h₅ h₆ h₇ h₈ h₉ : Bytes) (t k d n u : ℕ) → length l ≡ 32
-    → h₁ ≡ putBytes l 0 (le 2 1) → h₂ ≡ putBytes h₁ 2 (le 2 t) → h₃ ≡ putBytes h₂ 4 (le 2 k) → h₄ ≡ putBytes h₃ 6 (le 2 d) → h₅ ≡ putBytes h₄ 8 (le 8 n)
-    → h₆ ≡ putBytes h₅ 16 (le 4 32) → h₇ ≡ putBytes h₆ 20 (le 4 u) → h₈ ≡ putBytes h₇ 24 (le 4 (u + 12 * k)) → h₉ ≡ putBytes h₈ 28 (le 4 (u + 12 * k + 32))
-    → h₉ ≡ headerBytes edition1 t k d n u
-unfolding headerBytes
-header-put l h₁ h₂ h₃ h₄ h₅ h₆ h₇ h₈ h₉ t k d n u z e₁ e₂ e₃ e₄ e₅ e₆ e₇ e₈ e₉ =
-    grow l h₈ h₉ _ (le 4 (u + 12 * k + 32)) 0 28
-    (grow l h₇ h₈ _ (le 4 (u + 12 * k)) 0 24
-    (grow l h₆ h₇ _ (le 4 u) 0 20
-    (grow l h₅ h₆ _ (le 4 32) 0 16
-    (grow l h₄ h₅ _ (le 8 n) 0 8
-    (grow l h₃ h₄ _ (le 2 d) 0 6
-    (grow l h₂ h₃ _ (le 2 k) 0 4
-    (grow l h₁ h₂ (le 2 1) (le 2 t) 0 2 e₁ e₂ refl (omega arith))
-    e₃ refl (omega arith)) e₄ refl (omega arith)) e₅ refl (omega arith)) e₆ refl (omega arith)) e₇ refl (omega arith)) e₈ refl (omega arith)) e₉ refl (omega arith)
-    ∙ put-whole l (headerBytes edition1 t k d n u) (omega arith)
+-- the header's nine fields, over the bytes of the longest header
+module _ (e : Edition) (name : Name) (t k d u : ℕ) where
+  abbrev fields : Bytes
+  fields = le 2 (e .number) ++ (le 2 t ++ (le 2 k ++ (le 2 d ++ (le 8 (name .burst) ++ (le 4 (e .header) ++ (le 4 u ++ (le 4 (u + 12 * k) ++ le 4 (u + 12 * k + 32))))))))
+
+  fields-put : (l h₁ h₂ h₃ h₄ h₅ h₆ h₇ h₈ h₉ : Bytes) → length l ≡ maxHeader
+      → h₁ ≡ putBytes l 0 (le 2 (e .number)) → h₂ ≡ putBytes h₁ 2 (le 2 t) → h₃ ≡ putBytes h₂ 4 (le 2 k) → h₄ ≡ putBytes h₃ 6 (le 2 d) → h₅ ≡ putBytes h₄ 8 (le 8 (name .burst))
+      → h₆ ≡ putBytes h₅ 16 (le 4 (e .header)) → h₇ ≡ putBytes h₆ 20 (le 4 u) → h₈ ≡ putBytes h₇ 24 (le 4 (u + 12 * k)) → h₉ ≡ putBytes h₈ 28 (le 4 (u + 12 * k + 32))
+      → h₉ ≡ putBytes l 0 fields
+  fields-put l h₁ h₂ h₃ h₄ h₅ h₆ h₇ h₈ h₉ z e₁ e₂ e₃ e₄ e₅ e₆ e₇ e₈ e₉ =
+      grow l h₈ h₉ _ (le 4 (u + 12 * k + 32)) 0 28
+      (grow l h₇ h₈ _ (le 4 (u + 12 * k)) 0 24
+      (grow l h₆ h₇ _ (le 4 u) 0 20
+      (grow l h₅ h₆ _ (le 4 (e .header)) 0 16
+      (grow l h₄ h₅ _ (le 8 (name .burst)) 0 8
+      (grow l h₃ h₄ _ (le 2 d) 0 6
+      (grow l h₂ h₃ _ (le 2 k) 0 4
+      (grow l h₁ h₂ (le 2 (e .number)) (le 2 t) 0 2 e₁ e₂ refl (omega arith))
+      e₃ refl (omega arith)) e₄ refl (omega arith)) e₅ refl (omega arith)) e₆ refl (omega arith)) e₇ refl (omega arith)) e₈ refl (omega arith)) e₉ refl (omega arith)
+
+  -- over zeros, the header stands at the front
+  fields-front : Known e → (length (putBytes (replicate maxHeader 0) 0 fields) ≡ maxHeader) × (take (e .header) (putBytes (replicate maxHeader 0) 0 fields) ≡ headerBytes e name t k d u)
+  unfolding headerBytes headerRest putBytes
+  fields-front w =
+      let g = w .least in
+      let g₂ = w .header in
+      let s : e .header ≡ fieldsLength + (e .header - fieldsLength) = omega arith in (
+        refl,
+        ap (λ (n : ℕ). take n (fields ++ replicate (maxHeader - fieldsLength) 0)) s
+            ∙ take-append-add fields (replicate (maxHeader - fieldsLength) 0) (e .header - fieldsLength)
+            ∙ ap (λ (r : Bytes). fields ++ r) (take-zeros (e .header - fieldsLength) (maxHeader - fieldsLength) (omega arith)),
+      )
+
+  pub header-put : Known e → (h₁ h₂ h₃ h₄ h₅ h₆ h₇ h₈ h₉ : Bytes)
+      → h₁ ≡ putBytes (replicate maxHeader 0) 0 (le 2 (e .number)) → h₂ ≡ putBytes h₁ 2 (le 2 t) → h₃ ≡ putBytes h₂ 4 (le 2 k) → h₄ ≡ putBytes h₃ 6 (le 2 d) → h₅ ≡ putBytes h₄ 8 (le 8 (name .burst))
+      → h₆ ≡ putBytes h₅ 16 (le 4 (e .header)) → h₇ ≡ putBytes h₆ 20 (le 4 u) → h₈ ≡ putBytes h₇ 24 (le 4 (u + 12 * k)) → h₉ ≡ putBytes h₈ 28 (le 4 (u + 12 * k + 32))
+      → (length h₉ ≡ maxHeader) × (take (e .header) h₉ ≡ headerBytes e name t k d u)
+  header-put w h₁ h₂ h₃ h₄ h₅ h₆ h₇ h₈ h₉ e₁ e₂ e₃ e₄ e₅ e₆ e₇ e₈ e₉ =
+      let q = fields-put (replicate maxHeader 0) h₁ h₂ h₃ h₄ h₅ h₆ h₇ h₈ h₉ refl e₁ e₂ e₃ e₄ e₅ e₆ e₇ e₈ e₉ in
+      let f = fields-front w in
+      (ap length q ∙ f .0, ap (take (e .header)) q ∙ f .1)
 
 -- one more entry of an index
 pub index-snoc : (es : List Entry) (e : Entry) → indexBytes (es ++ (e ∷ [])) ≡ indexBytes es ++ bytesOfEntry e

@@ -12,7 +12,8 @@ use lib.ListN.{length, take, drop, getD, length-take, drop-of-length-le}
 use lib.Seq.{slice-cons}
 use Rattle.burst.specs.declared.Entry.{Entry}
 use Rattle.burst.specs.declared.Recorder.{Recorder}
-use Rattle.burst.specs.Layout.{edition1, maxPicture}
+use Rattle.burst.specs.declared.Edition.{Edition}
+use Rattle.burst.specs.Layout.{maxPicture}
 use Rattle.burst.specs.Numbers.{usedAfter}
 use Rattle.burst.specs.Index.{entryRules, indexRules}
 use Rattle.burst.specs.Recorder.{isSound}
@@ -128,33 +129,34 @@ ended es n i last offset taken end h =
     ap (indexRules last offset taken end) (drop-of-length-le (take n es) {i = i} (simp length-take (omega arith)))
     ∙ index-end last offset taken end
 
--- ---- a sound recorder
-pub record Sound (r : Recorder) : Type 0 where
+-- ---- a sound recorder, with the bounds that hold over every row
+pub record Sound (e : Edition) (r : Recorder) : Type 0 where
   pub alive : r .closed ≡ false
-  pub taken : r .taken .0 ≤ 60
+  pub taken : r .taken .0 ≤ e .shots
   pub kept : r .kept .0 ≤ r .taken .0
-  pub index : indexRules 0 32 (r .taken .0) (r .used) (take (r .kept .0) (r .entries)) ≡ true
-  pub least : 32 ≤ r .used
-  pub used : r .used ≤ 32 + 1048608 * r .kept .0
+  pub index : indexRules 0 (e .header) (r .taken .0) (r .used) (take (r .kept .0) (r .entries)) ≡ true
+  pub least : e .header ≤ r .used
+  pub used : r .used ≤ e .header + 1048608 * r .kept .0
 
-pub sounds : (r : Recorder) → isSound r ≡ true → Sound r
-unfolding isSound
-sounds r h =
-    let h₁ = and-true (not (r .closed)) _ h in
-    let h₂ = and-true (leb (r .taken .0) 60) _ (h₁ .1) in
-    let h₃ = and-true (leb (r .kept .0) (r .taken .0)) _ (h₂ .1) in
-    let g = index-used _ 0 32 (r .taken .0) (r .used) (h₃ .1) in
-    let l : length (take (r .kept .0) (r .entries)) ≤ r .kept .0 = simp length-take (omega arith) in
-    record {
-      alive = not-holds _ (h₁ .0);
-      taken = leb-true _ _ (h₂ .0);
-      kept = leb-true _ _ (h₃ .0);
-      index = h₃ .1;
-      least = g .0;
-      used = omega (arith, g, l);
-    }
+module _ (e : Edition) (r : Recorder) where
+  pub sounds : isSound e r ≡ true → Sound e r
+  unfolding isSound
+  sounds h =
+      let h₁ = and-true (not (r .closed)) _ h in
+      let h₂ = and-true (leb (r .taken .0) (e .shots)) _ (h₁ .1) in
+      let h₃ = and-true (leb (r .kept .0) (r .taken .0)) _ (h₂ .1) in
+      let g = index-used _ 0 (e .header) (r .taken .0) (r .used) (h₃ .1) in
+      let l : length (take (r .kept .0) (r .entries)) ≤ r .kept .0 = simp length-take (omega arith) in
+      record {
+        alive = not-holds _ (h₁ .0);
+        taken = leb-true _ _ (h₂ .0);
+        kept = leb-true _ _ (h₃ .0);
+        index = h₃ .1;
+        least = g .0;
+        used = omega (arith, g, l);
+      }
 
-pub sound-is : (r : Recorder) → r .closed ≡ false → r .taken .0 ≤ 60 → r .kept .0 ≤ r .taken .0
-    → isSound r ≡ indexRules 0 32 (r .taken .0) (r .used) (take (r .kept .0) (r .entries))
-unfolding isSound
-sound-is r h₁ h₂ h₃ = simp (h₁, le-leb (r .taken .0) 60 h₂, le-leb (r .kept .0) (r .taken .0) h₃)
+  pub sound-is : r .closed ≡ false → r .taken .0 ≤ e .shots → r .kept .0 ≤ r .taken .0
+      → isSound e r ≡ indexRules 0 (e .header) (r .taken .0) (r .used) (take (r .kept .0) (r .entries))
+  unfolding isSound
+  sound-is h₁ h₂ h₃ = simp (h₁, le-leb (r .taken .0) (e .shots) h₂, le-leb (r .kept .0) (r .taken .0) h₃)

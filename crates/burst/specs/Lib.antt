@@ -1,3 +1,5 @@
+pub mod Editions
+pub mod Parts
 pub mod Layout
 pub mod Numbers
 pub mod Plain

@@ -1,11 +1,13 @@
 -- The refusal numbers of the recorder's calls, from plain numbers (01, "Recorder" and "Turned down, by example"). The recorder and the plain burst use the same.
 -- Assumes nothing.
 use mathlib.Core.Bool.{Bool, not, _||_}
-use mathlib.Core.List.{List, [], _∷_}
+use mathlib.Core.List.{[], _∷_}
 use Prim.Native.Nat.{ℕ, _+_}
 use lib.Dec.{eqb, leb, ltb}
 use Rattle.icepole.specs.Answers.{refusal, _when_}
-use Rattle.burst.specs.Layout.{Edition, maxPicture, closingOffset, sealLength}
+use Rattle.burst.specs.declared.Edition.{Edition}
+use Rattle.burst.specs.Parts.{sealLength}
+use Rattle.burst.specs.Layout.{maxPicture, closingOffset}
 
 -- bytes used after a picture of so many bytes
 abbrev pub usedAfter : ℕ → ℕ → ℕ
@@ -21,7 +23,7 @@ beginNumber e key siteMark buffer =
     refusal
     ((1 when not (eqb key 16))
     ∷ (3 when not (eqb siteMark 16))
-    ∷ (11 when ltb buffer (totalFrom (e .headerLength) 0))
+    ∷ (11 when ltb buffer (totalFrom (e .header) 0))
     ∷ [])
 
 -- with the picture and its entry, the burst can still be closed
@@ -30,13 +32,13 @@ keepNumber e sound taken kept used stamp picture buffer =
     refusal
     ((8 when not sound)
     ∷ (3 when not (eqb stamp 16))
-    ∷ (9 when leb (e .maxShots) taken)
+    ∷ (9 when leb (e .shots) taken)
     ∷ (10 when (ltb picture 1 || ltb maxPicture picture))
     ∷ (11 when ltb buffer (totalFrom (usedAfter used picture) (kept + 1)))
     ∷ [])
 
 unfoldable pub dropNumber : Edition → (sound : Bool) (taken : ℕ) → ℕ
-dropNumber e sound taken = refusal ((8 when not sound) ∷ (9 when leb (e .maxShots) taken) ∷ [])
+dropNumber e sound taken = refusal ((8 when not sound) ∷ (9 when leb (e .shots) taken) ∷ [])
 
 unfoldable pub closeNumber : (sound : Bool) (kept used buffer : ℕ) → ℕ
 closeNumber sound kept used buffer = refusal ((8 when not sound) ∷ (11 when ltb buffer (totalFrom used kept)) ∷ [])

@@ -7,7 +7,9 @@ use lib.Dec.{eqb}
 use lib.ListN.{length}
 use Rattle.bytes_le.specs.Bytes.{Bytes}
 use Rattle.icepole.specs.Sealing.{pick}
-use Rattle.burst.specs.Layout.{Edition, Identity, entryBytes, headerBytes, recordBytes, closingSeal}
+use Rattle.burst.specs.declared.Edition.{Edition}
+use Rattle.burst.specs.declared.Name.{Name}
+use Rattle.burst.specs.Layout.{Identity, entryBytes, headerBytes, recordBytes, closingSeal}
 use Rattle.burst.specs.Numbers.{usedAfter, totalFrom, beginNumber, keepNumber, dropNumber, closeNumber}
 
 -- ---- a shot: a picture with its stamp, or a gap where it was dropped
@@ -33,11 +35,11 @@ usedBy used (kept s p ∷ xs) = usedBy (usedAfter used (length p)) xs
 usedBy used (gap ∷ xs) = usedBy used xs
 
 -- the records, and the index, of xs, the first of which is shot number n; the first record stands at `offset`
-abbrev pub records : Bytes → ℕ → ℕ → ℕ → List Shot → Bytes
-records key burstNumber n offset [] = []
-records key burstNumber n offset (kept s p ∷ xs) =
-    recordBytes key burstNumber n offset s p ++ records key burstNumber (n + 1) (usedAfter offset (length p)) xs
-records key burstNumber n offset (gap ∷ xs) = records key burstNumber (n + 1) offset xs
+abbrev pub records : Edition → Bytes → Name → ℕ → ℕ → List Shot → Bytes
+records e key name n offset [] = []
+records e key name n offset (kept s p ∷ xs) =
+    recordBytes e key name n offset s p ++ records e key name (n + 1) (usedAfter offset (length p)) xs
+records e key name n offset (gap ∷ xs) = records e key name (n + 1) offset xs
 
 abbrev pub index : ℕ → ℕ → List Shot → Bytes
 index n offset [] = []
@@ -53,27 +55,27 @@ pub record Plain : Type 0 where
 
 -- at first it is closed
 abbrev pub noBurst : Plain
-noBurst = record { key = []; identity = record { burstNumber = 0; siteMark = [] }; shots = []; closed = true }
+noBurst = record { key = []; identity = record { name = record { burst = 0 }; siteMark = [] }; shots = []; closed = true }
 
 module _ (e : Edition) where
   abbrev pub usedOf : Plain → ℕ
-  usedOf p = usedBy (e .headerLength) (p .shots)
+  usedOf p = usedBy (e .header) (p .shots)
 
   unfoldable pub totalOf : Plain → ℕ
   totalOf p = totalFrom (usedOf p) (pictures (p .shots))
 
   unfoldable pub headerOf : Plain → Bytes
-  headerOf p = headerBytes e (length (p .shots)) (pictures (p .shots)) (gaps (p .shots)) (p .identity .burstNumber) (usedOf p)
+  headerOf p = headerBytes e (p .identity .name) (length (p .shots)) (pictures (p .shots)) (gaps (p .shots)) (usedOf p)
 
   unfoldable pub indexOf : Plain → Bytes
-  indexOf p = index 1 (e .headerLength) (p .shots)
+  indexOf p = index 1 (e .header) (p .shots)
 
   -- its file: header, records, index and closing seal, each shot numbered by its position from 1
   unfoldable pub fileOf : Plain → Bytes
   fileOf p =
       headerOf p
-      ++ (records (p .key) (p .identity .burstNumber) 1 (e .headerLength) (p .shots)
-      ++ (indexOf p ++ closingSeal (p .key) (p .identity) (headerOf p) (indexOf p)))
+      ++ (records e (p .key) (p .identity .name) 1 (e .header) (p .shots)
+      ++ (indexOf p ++ closingSeal e (p .key) (p .identity) (headerOf p) (indexOf p)))
 
 -- ---- the calls after begin
 -- drop is given a recorder by value, or one that is lent and changed in place

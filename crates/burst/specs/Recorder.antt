@@ -1,7 +1,7 @@
 -- The recorder's calls (01, "Recorder"): what each answers and leaves in the buffer, for good and bad calls.
 -- Assumes nothing.
 use mathlib.Core.Bool.{Bool, true, false, not, _&&_}
-use mathlib.Core.List.{List, _++_}
+use mathlib.Core.List.{_++_}
 use Prim.Native.Nat.{ℕ, _+_, _-_}
 use lib.Dec.{eqb, leb}
 use lib.ListN.{length, take, set, replicate}
@@ -12,50 +12,63 @@ use Rattle.burst.specs.declared.Recorder.{Recorder}
 use Rattle.burst.specs.declared.Begun.{Begun}
 use Rattle.burst.specs.declared.ShotAnswer.{ShotAnswer}
 use Rattle.burst.specs.declared.Closed.{Closed}
-use Rattle.burst.specs.Layout.{edition1, Identity, headerBytes, recordBytes, closingSeal}
+use Rattle.burst.specs.declared.Edition.{Edition}
+use Rattle.burst.specs.declared.Name.{Name}
+use Rattle.burst.specs.Editions.{written, maxEntries}
+use Rattle.burst.specs.Layout.{Identity, headerBytes, recordBytes, closingSeal}
 use Rattle.burst.specs.Numbers.{usedAfter, totalFrom, beginNumber, keepNumber, dropNumber, closeNumber}
 use Rattle.burst.specs.Index.{entryOf, indexRules, indexBytes}
 
--- not closed, taken at most 60, kept at most taken, and the first kept entries obey the index rules and end at bytes used. Later entries are not looked at
-unfoldable pub isSound : Recorder → Bool
-isSound r =
+-- the edition of a recorder's burst
+abbrev pub editionOf : Recorder → Edition
+editionOf r = written (length (r .key))
+
+abbrev pub nameOf : Recorder → Name
+nameOf r = record { burst = r .«burst_number» }
+
+abbrev pub identityOf : Recorder → Identity
+identityOf r = record { name = nameOf r; siteMark = r .«site_mark» }
+
+-- not closed, taken at most the edition's shots, kept at most taken, and the first kept entries obey the index rules and end at bytes used. Later entries are not looked at
+unfoldable pub isSound : Edition → Recorder → Bool
+isSound e r =
     not (r .closed)
-    && (leb (r .taken .0) (edition1 .maxShots)
+    && (leb (r .taken .0) (e .shots)
     && (leb (r .kept .0) (r .taken .0)
-    && indexRules 0 (edition1 .headerLength) (r .taken .0) (r .used) (take (r .kept .0) (r .entries))))
+    && indexRules 0 (e .header) (r .taken .0) (r .used) (take (r .kept .0) (r .entries))))
 
 -- ---- begin
 -- a recorder without shots
 unfoldable pub newRecorder : (key : Bytes) (i : Identity) (used : ℕ) (closed : Bool) → Recorder
 newRecorder key i used closed = record {
   key = key;
-  «burst_number» = i .burstNumber;
+  «burst_number» = i .name .burst;
   «site_mark» = i .siteMark;
   taken = record { 0 = 0 };
   kept = record { 0 = 0 };
   used = used;
-  entries = replicate (edition1 .maxShots) (entryOf 0 0 0);
+  entries = replicate maxEntries (entryOf 0 0 0);
   closed = closed;
 }
 
 -- what a begin that is turned down returns: a closed recorder, otherwise zero
 unfoldable pub noRecorder : Recorder
-noRecorder = newRecorder (replicate 16 0) (record { burstNumber = 0; siteMark = replicate 16 0 }) 0 true
+noRecorder = newRecorder (replicate 16 0) (record { name = record { burst = 0 }; siteMark = replicate 16 0 }) 0 true
 
 module _ (key : Bytes) (i : Identity) (buffer : Bytes) where
   unfoldable pub beginRefused : ℕ
-  beginRefused = beginNumber edition1 (length key) (length (i .siteMark)) (length buffer)
+  beginRefused = beginNumber (written (length key)) (length key) (length (i .siteMark)) (length buffer)
 
   unfoldable pub beginAnswer : Begun
   beginAnswer = record {
     refusal = beginRefused;
     mark = 0;
-    recorder = pick (eqb beginRefused 0) (newRecorder key i (edition1 .headerLength) false) noRecorder;
+    recorder = pick (eqb beginRefused 0) (newRecorder key i (written (length key) .header) false) noRecorder;
   }
 
   -- the header's bytes are zero until close writes it
   unfoldable pub beginBuffer : Bytes
-  beginBuffer = unless beginRefused buffer (putBytes buffer 0 (replicate (edition1 .headerLength) 0))
+  beginBuffer = unless beginRefused buffer (putBytes buffer 0 (replicate (written (length key) .header) 0))
 
 -- ---- keep and drop
 -- the shot number with the recorder; a refused call returns the recorder it was given
@@ -80,7 +93,7 @@ afterDrop r = record {
 }
 
 unfoldable pub dropRefused : Recorder → ℕ
-dropRefused r = dropNumber edition1 (isSound r) (r .taken .0)
+dropRefused r = dropNumber (editionOf r) (isSound (editionOf r) r) (r .taken .0)
 
 unfoldable pub dropAnswer : Recorder → ShotAnswer
 dropAnswer r = shotAnswer (dropRefused r) r (afterDrop r)
@@ -100,7 +113,7 @@ afterKeep r count = record {
 
 module _ (r : Recorder) (stamp picture buffer : Bytes) where
   unfoldable pub keepRefused : ℕ
-  keepRefused = keepNumber edition1 (isSound r) (r .taken .0) (r .kept .0) (r .used) (length stamp) (length picture) (length buffer)
+  keepRefused = keepNumber (editionOf r) (isSound (editionOf r) r) (r .taken .0) (r .kept .0) (r .used) (length stamp) (length picture) (length buffer)
 
   unfoldable pub keepAnswer : ShotAnswer
   keepAnswer = shotAnswer keepRefused r (afterKeep r (length picture))
@@ -108,7 +121,7 @@ module _ (r : Recorder) (stamp picture buffer : Bytes) where
   -- one record at bytes used
   unfoldable pub keepBuffer : Bytes
   keepBuffer =
-      unless keepRefused buffer (putBytes buffer (r .used) (recordBytes (r .key) (r .«burst_number») (r .taken .0 + 1) (r .used) stamp picture))
+      unless keepRefused buffer (putBytes buffer (r .used) (recordBytes (editionOf r) (r .key) (nameOf r) (r .taken .0 + 1) (r .used) stamp picture))
 
 -- ---- close
 unfoldable pub afterClose : Recorder → Recorder
@@ -124,18 +137,18 @@ afterClose r = record {
 }
 
 unfoldable pub recorderHeader : Recorder → Bytes
-recorderHeader r = headerBytes edition1 (r .taken .0) (r .kept .0) (r .taken .0 - r .kept .0) (r .«burst_number») (r .used)
+recorderHeader r = headerBytes (editionOf r) (nameOf r) (r .taken .0) (r .kept .0) (r .taken .0 - r .kept .0) (r .used)
 
 unfoldable pub recorderIndex : Recorder → Bytes
 recorderIndex r = indexBytes (take (r .kept .0) (r .entries))
 
 unfoldable pub recorderSeal : Recorder → Bytes
 recorderSeal r =
-    closingSeal (r .key) (record { burstNumber = r .«burst_number»; siteMark = r .«site_mark» }) (recorderHeader r) (recorderIndex r)
+    closingSeal (editionOf r) (r .key) (identityOf r) (recorderHeader r) (recorderIndex r)
 
 module _ (r : Recorder) (buffer : Bytes) where
   unfoldable pub closeRefused : ℕ
-  closeRefused = closeNumber (isSound r) (r .kept .0) (r .used) (length buffer)
+  closeRefused = closeNumber (isSound (editionOf r) r) (r .kept .0) (r .used) (length buffer)
 
   unfoldable pub closeAnswer : Closed
   closeAnswer = record {

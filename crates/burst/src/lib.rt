@@ -1,16 +1,19 @@
 // The recorder of bursts (01, "Recorder").
 use icepole::KEY_LENGTH;
+use icepole::Opened;
 use icepole::SECRET_LENGTH;
 use icepole::Variant;
 ghost use mathlib.Core.Path.{_≡_};
 ghost use mathlib.Core.List.{_++_};
-ghost use Prim.Native.Nat.{_+_, _*_, _≤_, _<_, _^_};
+ghost use Prim.Native.Nat.{_+_, _-_, _*_, _≤_, _<_, _^_};
 ghost use lib.ListN.{length, take};
 ghost use Rattle.bytes_le.specs.Bytes.{putBytes};
-ghost use Rattle.burst.specs.Layout.{edition1, entryLength, nonceOf, recordBytes, closingSeal};
+ghost use Rattle.burst.specs.Editions.{Known, numbered, written, maxEntries, maxHeader};
+ghost use Rattle.burst.specs.Parts.{sealLength, nonceOf, sealPart, partAnswer, partOutput};
+ghost use Rattle.burst.specs.Layout.{entryLength, maxPicture, maxIndex, headerBytes, recordBytes, closingSeal};
 ghost use Rattle.burst.specs.Numbers.{beginNumber, keepNumber, dropNumber, closeNumber};
 ghost use Rattle.burst.specs.Index.{entryOf, entryRules, bytesOfEntry};
-ghost use Rattle.burst.specs.Recorder.{isSound, newRecorder, beginAnswer, beginBuffer, dropAnswer, afterKeep, keepAnswer, keepBuffer, recorderHeader, recorderIndex, closeAnswer, closeBuffer};
+ghost use Rattle.burst.specs.Recorder.{editionOf, nameOf, identityOf, isSound, newRecorder, beginAnswer, beginBuffer, dropAnswer, afterKeep, keepAnswer, keepBuffer, recorderIndex, closeAnswer, closeBuffer};
 
 // A shot number (01): counts firings from 1.
 pub struct Shot(pub u16);
@@ -31,19 +34,52 @@ pub const FRONT_BROKEN: u32 = 12;
 
 pub const NO_SUCH_PLACE: u32 = 13;
 
-// The facts of edition 1.
-pub const EDITION: u16 = 1;
+// The facts of an edition: its number in the header, the bytes of its header, and its most shots.
+pub struct Edition {
+    pub number: u16,
+    pub header: u32,
+    pub shots: u16,
+}
 
-pub const HEADER_LENGTH: u32 = 32;
+// Edition 1.
+const HEADER_1: u32 = 32;
 
-pub const MAX_SHOTS: u16 = 60;
+const SHOTS_1: u16 = 60;
+
+// The editions, a row each.
+const EDITION_COUNT: usize = 1;
+
+const EDITIONS: [Edition; EDITION_COUNT] = [Edition {
+    number: 1,
+    header: HEADER_1,
+    shots: SHOTS_1,
+}];
+
+// The number of the edition that the writer makes.
+const WRITTEN: u16 = 1;
+
+// Bytes of the header's nine fields, with which it starts in every edition.
+pub const FIELDS_LENGTH: usize = 32;
+
+// Bytes of the longest header of any row.
+pub const MAX_HEADER: usize = HEADER_1 as usize;
 
 const MAX_PICTURE: u32 = 1048576;
 
 pub const ENTRY_LENGTH: usize = 12;
 
+// Entries of a recorder, the most shots of any row, and bytes of an index of so many entries.
+pub const MAX_ENTRIES: usize = SHOTS_1 as usize;
+
+pub const MAX_INDEX: usize = ENTRY_LENGTH * MAX_ENTRIES;
+
 // Bytes by which sealing lengthens, and bytes of a closing seal.
 pub const SEAL_LENGTH: u32 = 32;
+
+// What names a burst under its key: its number.
+pub struct Name {
+    pub burst: u64,
+}
 
 // An index entry: the record's offset in the file and the picture's length. `zeros` is the entry's field that is always zero.
 pub struct Entry {
@@ -63,7 +99,7 @@ pub struct Recorder {
     pub kept: Place,
     // bytes of header and records
     pub used: u32,
-    pub entries: [Entry; 60],
+    pub entries: [Entry; MAX_ENTRIES],
     pub closed: bool,
 }
 
@@ -111,13 +147,54 @@ pub fn entry_ok(last: Shot, offset: u32, taken: Shot, e: Entry) -> bool
     e.length <= MAX_PICTURE
 }
 
-fn sound(r: Recorder) -> bool
-    ensures { λ b. ⌜ b ≡ isSound r ⌝ }
+// The row of an edition number; a number that no row has gives edition 1.
+pub fn edition_numbered(number: u16) -> Edition
+    ensures { λ e. ⌜ (e ≡ numbered number) × Known e ⌝ }
+{
+    let rows = EDITIONS;
+    let mut i: usize = 0;
+    while i < EDITION_COUNT {
+        let e = rows[i];
+        if e.number == number {
+            return e;
+        }
+        i += 1;
+    }
+    rows[0]
+}
+
+// The row that the writer makes, from the key's length.
+fn edition_for(key: usize) -> Edition
+    ensures { λ e. ⌜ (e ≡ written key) × Known e ⌝ }
+{
+    edition_numbered(WRITTEN)
+}
+
+// The row of a recorder's burst.
+fn edition_of(r: Recorder) -> Edition
+    ensures { λ e. ⌜ (e ≡ editionOf r) × Known e ⌝ }
+{
+    let key = r.key;
+    edition_for(key.len())
+}
+
+// The name of a recorder's burst.
+fn name_of(r: Recorder) -> Name
+    ensures { λ n. ⌜ n ≡ nameOf r ⌝ }
+{
+    Name {
+        burst: r.burst_number,
+    }
+}
+
+fn sound(e: Edition, r: Recorder) -> bool
+    requires { ⌜ Known e ⌝ }
+    ensures { λ b. ⌜ b ≡ isSound e r ⌝ }
 {
     if r.closed {
         return false;
     }
-    if r.taken.0 > MAX_SHOTS {
+    if r.taken.0 > e.shots {
         return false;
     }
     if r.kept.0 > r.taken.0 {
@@ -126,14 +203,14 @@ fn sound(r: Recorder) -> bool
     let n = r.kept.0 as usize;
     let mut i: usize = 0;
     let mut last: u16 = 0;
-    let mut offset = HEADER_LENGTH;
+    let mut offset = e.header;
     while i < n {
-        let e = r.entries[i];
-        if !entry_ok(Shot(last), offset, r.taken, e) {
+        let x = r.entries[i];
+        if !entry_ok(Shot(last), offset, r.taken, x) {
             return false;
         }
-        offset = offset + e.length + SEAL_LENGTH;
-        last = e.shot.0;
+        offset = offset + x.length + SEAL_LENGTH;
+        last = x.shot.0;
         i += 1;
     }
     offset == r.used
@@ -156,7 +233,7 @@ fn new_recorder(
     used: u32,
     closed: bool,
 ) -> Recorder
-    ensures { λ r. ⌜ r ≡ newRecorder key (record { burstNumber = «burst_number»; siteMark = «site_mark» }) used closed ⌝ }
+    ensures { λ r. ⌜ r ≡ newRecorder key (record { name = record { burst = «burst_number» }; siteMark = «site_mark» }) used closed ⌝ }
 {
     let e = Entry {
         shot: Shot(0),
@@ -171,14 +248,15 @@ fn new_recorder(
         taken: Shot(0),
         kept: Place(0),
         used,
-        entries: [e; 60],
+        entries: [e; MAX_ENTRIES],
         closed,
     }
 }
 
 // The number of begin, from the lengths of what is lent.
-fn begin_number(key: usize, site_mark: usize, buffer: usize) -> u32
-    ensures { λ n. ⌜ n ≡ beginNumber edition1 key «site_mark» buffer ⌝ }
+fn begin_number(e: Edition, key: usize, site_mark: usize, buffer: usize) -> u32
+    requires { ⌜ Known e ⌝ }
+    ensures { λ n. ⌜ n ≡ beginNumber e key «site_mark» buffer ⌝ }
 {
     if key != 16 {
         return KEY_LENGTH;
@@ -186,7 +264,7 @@ fn begin_number(key: usize, site_mark: usize, buffer: usize) -> u32
     if site_mark != 16 {
         return SECRET_LENGTH;
     }
-    if buffer < 64 {
+    if buffer < (e.header + SEAL_LENGTH) as usize {
         return BUFFER_TOO_SHORT;
     }
     0
@@ -194,10 +272,11 @@ fn begin_number(key: usize, site_mark: usize, buffer: usize) -> u32
 
 pub fn begin(key: &[u8], burst_number: u64, site_mark: &[u8], buffer: &mut [u8]) -> Begun
     ensures { λ r. ⌜
-        (r ≡ beginAnswer (now (key .entry)) (record { burstNumber = «burst_number»; siteMark = now («site_mark» .entry) }) (now (buffer .entry))) ×
-        (now (buffer .exit) ≡ beginBuffer (now (key .entry)) (record { burstNumber = «burst_number»; siteMark = now («site_mark» .entry) }) (now (buffer .entry))) ⌝ }
+        (r ≡ beginAnswer (now (key .entry)) (record { name = record { burst = «burst_number» }; siteMark = now («site_mark» .entry) }) (now (buffer .entry))) ×
+        (now (buffer .exit) ≡ beginBuffer (now (key .entry)) (record { name = record { burst = «burst_number» }; siteMark = now («site_mark» .entry) }) (now (buffer .entry))) ⌝ }
 {
-    let number = begin_number(key.len(), site_mark.len(), buffer.len());
+    let e = edition_for(key.len());
+    let number = begin_number(e, key.len(), site_mark.len(), buffer.len());
     if number != 0 {
         return Begun {
             refusal: number,
@@ -205,14 +284,15 @@ pub fn begin(key: &[u8], burst_number: u64, site_mark: &[u8], buffer: &mut [u8])
             recorder: new_recorder([0u8; 16], 0, [0u8; 16], 0, true),
         };
     }
-    let zeros = [0u8; 32];
-    bytes_le::put_bytes(buffer, 0, &zeros);
+    let zeros = [0u8; MAX_HEADER];
+    let n = e.header as usize;
+    bytes_le::put_bytes(buffer, 0, &zeros[..n]);
     let k = sixteen(key);
     let m = sixteen(site_mark);
     Begun {
         refusal: 0,
         mark: 0,
-        recorder: new_recorder(k, burst_number, m, HEADER_LENGTH, false),
+        recorder: new_recorder(k, burst_number, m, e.header, false),
     }
 }
 
@@ -228,13 +308,14 @@ fn not_shot(refusal: u32, r: Recorder) -> ShotAnswer
     }
 }
 
-fn drop_number(r: Recorder) -> u32
-    ensures { λ n. ⌜ n ≡ dropNumber edition1 (isSound r) (r .taken .0) ⌝ }
+fn drop_number(e: Edition, r: Recorder) -> u32
+    requires { ⌜ Known e ⌝ }
+    ensures { λ n. ⌜ n ≡ dropNumber e (isSound e r) (r .taken .0) ⌝ }
 {
-    if !sound(r) {
+    if !sound(e, r) {
         return NOT_SOUND;
     }
-    if r.taken.0 >= MAX_SHOTS {
+    if r.taken.0 >= e.shots {
         return BURST_FULL;
     }
     0
@@ -243,7 +324,8 @@ fn drop_number(r: Recorder) -> u32
 pub fn drop_shot(r: Recorder) -> ShotAnswer
     ensures { λ k. ⌜ k ≡ dropAnswer r ⌝ }
 {
-    let number = drop_number(r);
+    let e = edition_of(r);
+    let number = drop_number(e, r);
     if number != 0 {
         return not_shot(number, r);
     }
@@ -259,13 +341,81 @@ pub fn drop_shot(r: Recorder) -> ShotAnswer
 }
 
 // The nonce of a shot; shot number 0 is the closing seal's.
-pub fn nonce_of(burst_number: u64, shot: Shot) -> [u8; 16]
-    ensures { λ r. ⌜ r ≡ nonceOf «burst_number» (shot .0) ⌝ }
+fn nonce_of(e: Edition, name: Name, shot: Shot) -> [u8; 16]
+    ensures { λ r. ⌜ r ≡ nonceOf e name (shot .0) ⌝ }
 {
     let mut a = [0u8; 16];
-    let i = bytes_le::store_le(&mut a, 0, 8, burst_number);
+    let i = bytes_le::store_le(&mut a, 0, 8, name.burst);
     bytes_le::store_le(&mut a, i, 2, shot.0 as u64);
     a
+}
+
+// ---- sealed parts: the one place of recorder and reader where the cipher is chosen. Every length is right, so that only a tag can be refused.
+// Seals a part at the front of out.
+fn seal_part(
+    e: Edition,
+    key: &[u8],
+    name: Name,
+    shot: Shot,
+    mark: &[u8],
+    first: &[u8],
+    second: &[u8],
+    body: &[u8],
+    out: &mut [u8],
+)
+    requires { ⌜ (length (now key) ≡ 16) × (length (now mark) ≡ 16) × (length (now first) + length (now second) ≤ maxHeader + maxIndex) × (length (now body) ≤ maxPicture)
+        × (length (now body) + sealLength ≤ length (now out)) ⌝ }
+    ensures { λ _. ⌜ now (out .exit) ≡ putBytes (now (out .entry)) 0
+        (sealPart e (now (key .entry)) name (shot .0) (now (mark .entry)) (now (first .entry) ++ now (second .entry)) (now (body .entry))) ⌝ }
+{
+    let nonce = nonce_of(e, name, shot);
+    icepole::seal(
+        Variant::Icepole128,
+        key,
+        &nonce,
+        mark,
+        first,
+        second,
+        body,
+        out,
+    );
+}
+
+// Verifies a part: its mark and the length of its body, or 7. It writes nothing.
+pub fn verify_part(
+    e: Edition,
+    key: &[u8],
+    name: Name,
+    shot: Shot,
+    first: &[u8],
+    second: &[u8],
+    sealed: &[u8],
+) -> Opened
+    requires { ⌜ (length (now key) ≡ 16) × (length (now first) + length (now second) ≤ maxHeader + maxIndex) × (sealLength ≤ length (now sealed)) × (length (now sealed) ≤ maxPicture + sealLength) ⌝ }
+    ensures { λ r. ⌜ r ≡ partAnswer e (now (key .entry)) name (shot .0) (now (first .entry) ++ now (second .entry)) (now (sealed .entry)) ⌝ }
+{
+    let nonce = nonce_of(e, name, shot);
+    icepole::verify(Variant::Icepole128, key, &nonce, first, second, sealed)
+}
+
+// Opens a part: its body is written to the front of out once the tag was found to agree.
+pub fn open_part(
+    e: Edition,
+    key: &[u8],
+    name: Name,
+    shot: Shot,
+    first: &[u8],
+    second: &[u8],
+    sealed: &[u8],
+    out: &mut [u8],
+) -> Opened
+    requires { ⌜ (length (now key) ≡ 16) × (length (now first) + length (now second) ≤ maxHeader + maxIndex) × (sealLength ≤ length (now sealed)) × (length (now sealed) ≤ maxPicture + sealLength)
+        × (length (now sealed) ≤ length (now out) + sealLength) ⌝ }
+    ensures { λ r. ⌜ (r ≡ partAnswer e (now (key .entry)) name (shot .0) (now (first .entry) ++ now (second .entry)) (now (sealed .entry)))
+        × (now (out .exit) ≡ partOutput e (now (key .entry)) name (shot .0) (now (first .entry) ++ now (second .entry)) (now (sealed .entry)) (now (out .entry))) ⌝ }
+{
+    let nonce = nonce_of(e, name, shot);
+    icepole::open_message(Variant::Icepole128, key, &nonce, first, second, sealed, out)
 }
 
 // Puts an entry's twelve bytes into out from index at on; returns the index behind them.
@@ -289,16 +439,17 @@ fn entry_bytes(e: Entry) -> [u8; 12]
 }
 
 // The number of keep, from the lengths of what is lent.
-fn keep_number(r: Recorder, stamp: usize, picture: usize, buffer: usize) -> u32
-    ensures { λ n. ⌜ n ≡ keepNumber edition1 (isSound r) (r .taken .0) (r .kept .0) (r .used) stamp picture buffer ⌝ }
+fn keep_number(e: Edition, r: Recorder, stamp: usize, picture: usize, buffer: usize) -> u32
+    requires { ⌜ Known e ⌝ }
+    ensures { λ n. ⌜ n ≡ keepNumber e (isSound e r) (r .taken .0) (r .kept .0) (r .used) stamp picture buffer ⌝ }
 {
-    if !sound(r) {
+    if !sound(e, r) {
         return NOT_SOUND;
     }
     if stamp != 16 {
         return SECRET_LENGTH;
     }
-    if r.taken.0 >= MAX_SHOTS {
+    if r.taken.0 >= e.shots {
         return BURST_FULL;
     }
     if picture < 1 {
@@ -307,8 +458,8 @@ fn keep_number(r: Recorder, stamp: usize, picture: usize, buffer: usize) -> u32
     if picture > MAX_PICTURE as usize {
         return PICTURE_LENGTH;
     }
-    let used = r.used as usize + picture + 32;
-    let need = used + ENTRY_LENGTH * (r.kept.0 as usize + 1) + 32;
+    let used = r.used as usize + picture + SEAL_LENGTH as usize;
+    let need = used + ENTRY_LENGTH * (r.kept.0 as usize + 1) + SEAL_LENGTH as usize;
     if buffer < need {
         return BUFFER_TOO_SHORT;
     }
@@ -317,7 +468,7 @@ fn keep_number(r: Recorder, stamp: usize, picture: usize, buffer: usize) -> u32
 
 // The entry of a recorder's next picture.
 fn next_entry(r: Recorder, length: u32) -> Entry
-    requires { ⌜ r .taken .0 < 60 ⌝ }
+    requires { ⌜ r .taken .0 < maxEntries ⌝ }
     ensures { λ e. ⌜ e ≡ entryOf (r .taken .0 + 1) (r .used) length ⌝ }
 {
     Entry {
@@ -329,20 +480,20 @@ fn next_entry(r: Recorder, length: u32) -> Entry
 }
 
 // Seals a recorder's next picture into the buffer, behind the records before it.
-fn put_record(r: Recorder, stamp: &[u8], picture: &[u8], buffer: &mut [u8])
-    requires { ⌜ (r .taken .0 < 60) × (length (now stamp) ≡ 16) × (length (now picture) ≤ 1048576) × (r .used + length (now picture) + 32 ≤ length (now buffer)) ⌝ }
-    ensures { λ _. ⌜ now (buffer .exit) ≡ putBytes (now (buffer .entry)) (r .used) (recordBytes (r .key) (r .«burst_number») (r .taken .0 + 1) (r .used) (now (stamp .entry)) (now (picture .entry))) ⌝ }
+fn put_record(e: Edition, r: Recorder, stamp: &[u8], picture: &[u8], buffer: &mut [u8])
+    requires { ⌜ (r .taken .0 < maxEntries) × (length (now stamp) ≡ 16) × (length (now picture) ≤ maxPicture) × (r .used + length (now picture) + sealLength ≤ length (now buffer)) ⌝ }
+    ensures { λ _. ⌜ now (buffer .exit) ≡ putBytes (now (buffer .entry)) (r .used) (recordBytes e (r .key) (nameOf r) (r .taken .0 + 1) (r .used) (now (stamp .entry)) (now (picture .entry))) ⌝ }
 {
-    let e = next_entry(r, picture.len() as u32);
-    let nonce = nonce_of(r.burst_number, e.shot);
-    let associated = entry_bytes(e);
+    let x = next_entry(r, picture.len() as u32);
+    let associated = entry_bytes(x);
     let none: [u8; 0] = [];
     let key = r.key;
     let start = r.used as usize;
-    icepole::seal(
-        Variant::Icepole128,
+    seal_part(
+        e,
         &key,
-        &nonce,
+        name_of(r),
+        x.shot,
         stamp,
         &associated,
         &none,
@@ -353,7 +504,7 @@ fn put_record(r: Recorder, stamp: &[u8], picture: &[u8], buffer: &mut [u8])
 
 // The recorder after a picture of so many bytes.
 fn with_picture(r: Recorder, length: u32) -> Recorder
-    requires { ⌜ (r .taken .0 < 60) × (r .kept .0 < 60) × (r .used + length + 32 < 2 ^ 32) ⌝ }
+    requires { ⌜ (r .taken .0 < maxEntries) × (r .kept .0 < maxEntries) × (r .used + length + sealLength < 2 ^ 32) ⌝ }
     ensures { λ n. ⌜ n ≡ afterKeep r length ⌝ }
 {
     let e = next_entry(r, length);
@@ -374,11 +525,12 @@ pub fn keep(r: Recorder, stamp: &[u8], picture: &[u8], buffer: &mut [u8]) -> Sho
         (k ≡ keepAnswer r (now (stamp .entry)) (now (picture .entry)) (now (buffer .entry))) ×
         (now (buffer .exit) ≡ keepBuffer r (now (stamp .entry)) (now (picture .entry)) (now (buffer .entry))) ⌝ }
 {
-    let number = keep_number(r, stamp.len(), picture.len(), buffer.len());
+    let e = edition_of(r);
+    let number = keep_number(e, r, stamp.len(), picture.len(), buffer.len());
     if number != 0 {
         return not_shot(number, r);
     }
-    put_record(r, stamp, picture, buffer);
+    put_record(e, r, stamp, picture, buffer);
     let next = with_picture(r, picture.len() as u32);
     let shot = next.taken;
     ShotAnswer {
@@ -396,35 +548,35 @@ pub fn index_length(kept: Place) -> usize
     ENTRY_LENGTH * (kept.0 as usize)
 }
 
-// The header of a recorder's file.
-fn header_of(r: Recorder) -> [u8; 32]
-    requires { ⌜ (r .kept .0 ≤ r .taken .0) × (r .used + 12 * r .kept .0 + 32 < 2 ^ 32) ⌝ }
-    ensures { λ h. ⌜ h ≡ recorderHeader r ⌝ }
+// The header of a recorder's file, at the front of what is returned.
+fn header_of(e: Edition, r: Recorder) -> [u8; MAX_HEADER]
+    requires { ⌜ Known e × (r .kept .0 ≤ r .taken .0) × (r .used + entryLength * r .kept .0 + sealLength < 2 ^ 32) ⌝ }
+    ensures { λ h. ⌜ (length h ≡ maxHeader) × (take (e .header) h ≡ headerBytes e (nameOf r) (r .taken .0) (r .kept .0) (r .taken .0 - r .kept .0) (r .used)) ⌝ }
 {
     let taken = r.taken.0;
     let kept = r.kept.0;
     let index = r.used as u64;
     let closing = index + index_length(r.kept) as u64;
-    let mut h = [0u8; 32];
-    bytes_le::store_le(&mut h, 0, 2, EDITION as u64);
+    let mut h = [0u8; MAX_HEADER];
+    bytes_le::store_le(&mut h, 0, 2, e.number as u64);
     bytes_le::store_le(&mut h, 2, 2, taken as u64);
     bytes_le::store_le(&mut h, 4, 2, kept as u64);
     bytes_le::store_le(&mut h, 6, 2, (taken - kept) as u64);
     bytes_le::store_le(&mut h, 8, 8, r.burst_number);
-    bytes_le::store_le(&mut h, 16, 4, HEADER_LENGTH as u64);
+    bytes_le::store_le(&mut h, 16, 4, e.header as u64);
     bytes_le::store_le(&mut h, 20, 4, index);
     bytes_le::store_le(&mut h, 24, 4, closing);
-    bytes_le::store_le(&mut h, 28, 4, closing + 32);
+    bytes_le::store_le(&mut h, 28, 4, closing + SEAL_LENGTH as u64);
     h
 }
 
 // The index of a recorder's file, at the front of what is returned.
-fn index_of(r: Recorder) -> [u8; 720]
-    requires { ⌜ r .kept .0 ≤ 60 ⌝ }
-    ensures { λ x. ⌜ (length x ≡ 720) × (take (12 * r .kept .0) x ≡ recorderIndex r) ⌝ }
+fn index_of(r: Recorder) -> [u8; MAX_INDEX]
+    requires { ⌜ r .kept .0 ≤ maxEntries ⌝ }
+    ensures { λ x. ⌜ (length x ≡ maxIndex) × (take (entryLength * r .kept .0) x ≡ recorderIndex r) ⌝ }
 {
     let n = r.kept.0 as usize;
-    let mut x = [0u8; 720];
+    let mut x = [0u8; MAX_INDEX];
     let mut i: usize = 0;
     let mut at: usize = 0;
     while i < n {
@@ -436,22 +588,22 @@ fn index_of(r: Recorder) -> [u8; 720]
 }
 
 // Writes header, index and closing seal of a recorder's file, from the header's and the index's bytes.
-fn put_end(r: Recorder, header: &[u8], index: &[u8], buffer: &mut [u8])
-    requires { ⌜ (length (now header) ≡ 32) × (length (now index) ≤ 720) × (32 ≤ r .used) × (r .used + length (now index) + 32 ≤ length (now buffer)) ⌝ }
+fn put_end(e: Edition, r: Recorder, header: &[u8], index: &[u8], buffer: &mut [u8])
+    requires { ⌜ (length (now header) ≤ maxHeader) × (length (now index) ≤ maxIndex) × (length (now header) ≤ r .used) × (r .used + length (now index) + sealLength ≤ length (now buffer)) ⌝ }
     ensures { λ _. ⌜ now (buffer .exit) ≡ putBytes (putBytes (now (buffer .entry)) 0 (now (header .entry))) (r .used)
-        (now (index .entry) ++ closingSeal (r .key) (record { burstNumber = r .«burst_number»; siteMark = r .«site_mark» }) (now (header .entry)) (now (index .entry))) ⌝ }
+        (now (index .entry) ++ closingSeal e (r .key) (identityOf r) (now (header .entry)) (now (index .entry))) ⌝ }
 {
     let at = r.used as usize;
     bytes_le::put_bytes(buffer, 0, header);
     let end = bytes_le::put_bytes(buffer, at, index);
-    let nonce = nonce_of(r.burst_number, Shot(0));
     let none: [u8; 0] = [];
     let key = r.key;
     let site_mark = r.site_mark;
-    icepole::seal(
-        Variant::Icepole128,
+    seal_part(
+        e,
         &key,
-        &nonce,
+        name_of(r),
+        Shot(0),
         &site_mark,
         header,
         index,
@@ -460,14 +612,15 @@ fn put_end(r: Recorder, header: &[u8], index: &[u8], buffer: &mut [u8])
     );
 }
 
-fn close_number(r: Recorder, buffer: usize) -> u32
-    ensures { λ n. ⌜ n ≡ closeNumber (isSound r) (r .kept .0) (r .used) buffer ⌝ }
+fn close_number(e: Edition, r: Recorder, buffer: usize) -> u32
+    requires { ⌜ Known e ⌝ }
+    ensures { λ n. ⌜ n ≡ closeNumber (isSound e r) (r .kept .0) (r .used) buffer ⌝ }
 {
-    if !sound(r) {
+    if !sound(e, r) {
         return NOT_SOUND;
     }
     let end = r.used as usize + index_length(r.kept);
-    if buffer < end + 32 {
+    if buffer < end + SEAL_LENGTH as usize {
         return BUFFER_TOO_SHORT;
     }
     0
@@ -476,7 +629,8 @@ fn close_number(r: Recorder, buffer: usize) -> u32
 pub fn close(r: Recorder, buffer: &mut [u8]) -> Closed
     ensures { λ k. ⌜ (k ≡ closeAnswer r (now (buffer .entry))) × (now (buffer .exit) ≡ closeBuffer r (now (buffer .entry))) ⌝ }
 {
-    let number = close_number(r, buffer.len());
+    let e = edition_of(r);
+    let number = close_number(e, r, buffer.len());
     if number != 0 {
         return Closed {
             refusal: number,
@@ -485,10 +639,11 @@ pub fn close(r: Recorder, buffer: &mut [u8]) -> Closed
             recorder: r,
         };
     }
-    let header = header_of(r);
+    let header = header_of(e, r);
     let index = index_of(r);
     let n = index_length(r.kept);
-    put_end(r, &header, &index[..n], buffer);
+    let m = e.header as usize;
+    put_end(e, r, &header[..m], &index[..n], buffer);
     let total = r.used + n as u32 + SEAL_LENGTH;
     let mut next = r;
     next.closed = true;

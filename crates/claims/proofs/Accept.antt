@@ -1,42 +1,42 @@
 -- Demand 3: the reader accepts exactly the files of the lists, and what it reads back of an accepted file makes that file.
 -- Assumes nothing.
-use mathlib.Core.Bool.{Bool, true, false, not}
+use mathlib.Core.Bool.{Bool, true, false}
 use mathlib.Core.List.{List, [], _∷_, _++_, append-assoc, append-nil}
 use mathlib.Core.Logic.{⊎-elim}
-use mathlib.Core.Option.{Option, some, none}
+use mathlib.Core.Option.{none}
 use mathlib.Core.Path.{_≡_, refl, sym, ap, ap₂, subst, _∙_}
 use Prim.Native.Nat.{ℕ, zero, suc, _+_, _-_, _*_, _/_, _%_, _^_, _≤_, _<_}
 use native.Mathlib.Omega.{arith}
 use native.Mathlib.Nat.{pow-suc, eq-or-lt-of-le}
-use borrow.Author.Tests.{le-leb, eq-eqb, eqb-true, eqb-false}
+use borrow.Author.Tests.{eqb-true, eqb-false}
 use lib.Dec.{eqb}
-use lib.ListN.{length, take, drop, length-append, length-drop, take-append-drop}
-use lib.Seq.{drop-drop, take-add, length-take-le, take-all}
+use lib.ListN.{length, take, drop, replicate, length-append, length-drop, take-append-drop}
+use lib.Seq.{drop-drop, take-take, take-add, length-take-le, take-all}
 use Rattle.bytes_le.specs.Bytes.{Bytes, AllBytes, le, unle, leAt}
 use Rattle.bytes_le.proofs.All.{all-take, all-drop}
-use Rattle.icepole.specs.declared.Variant.the-variants.{Icepole128}
-use Rattle.icepole.specs.Variants.{sizes}
-use Rattle.icepole.specs.Sealing.{pick, sealed, secretOf, messageOf}
-use Rattle.icepole.proofs.OpenedBytes.{secret-bytes, message-bytes}
-use Rattle.burst.specs.Layout.{edition1, Identity, nonceOf, entryBytes, headerBytes, recordBytes, closingSeal}
-use Rattle.burst.specs.Numbers.{usedAfter, beginNumber}
+use Rattle.icepole.specs.Sealing.{pick}
+use Rattle.burst.specs.declared.Edition.{Edition}
+use Rattle.burst.specs.declared.Name.{Name}
+use Rattle.burst.specs.Editions.{fieldsLength, Known}
+use Rattle.burst.specs.Parts.{sealLength, sealPart, partMark, partBody}
+use Rattle.burst.specs.Layout.{Identity, headerRest, entryBytes, headerBytes, recordBytes, closingSeal}
 use Rattle.burst.specs.Index.{indexRules}
 use Rattle.burst.specs.Plain.{Shot, kept, gap, pictures, gaps, usedBy, records, index, Plain, headerOf, indexOf, fileOf, byValue, Call, keepShot, dropShot, closeBurst, CallList, numberOf, accepted, afterCall, afterCalls, begun, plainOf, beginRefusal}
-use Rattle.burst.proofs.Rules.{Obeys, index-used}
+use Rattle.burst.proofs.Rows.{numbered-among}
+use Rattle.burst.proofs.Rules.{and-true, index-used}
 use Rattle.burst.proofs.Numbers.{keep-0, drop-0, close-0, begin-0}
-use Rattle.burst.proofs.Sealer.{sealed128, length-secret128, length-message128}
+use Rattle.burst.proofs.Parts.{part-sealed, length-mark, length-body, mark-bytes, body-bytes}
 use Rattle.reader.specs.declared.Checked.{Checked}
-use Rattle.reader.specs.Front.{editionIn, takenIn, keptIn, droppedIn, burstNumberIn, pictureOffsetIn, indexOffsetIn, closingOffsetIn, totalIn, entryAt, entriesAt}
-use Rattle.reader.specs.Reader.{closingPart, recordPart, recordParts, agrees, secretIn, messageIn, firstDiffering, checkNumber, checkAnswer}
+use Rattle.reader.specs.Front.{rowOf, nameIn, allZero, restRules, takenIn, keptIn, droppedIn, indexOffsetIn, entryAt, entriesAt}
+use Rattle.reader.specs.Reader.{closingPart, recordPart, recordParts, agrees, markIn, bodyIn, firstDiffering, checkNumber, checkAnswer}
 use Rattle.reader.proofs.Rules.{Front, entries-obey, entries-end}
 use Rattle.reader.proofs.Parts.{first-agrees}
 use Rattle.reader.proofs.Answers.{Accepted, accepted as obeyed}
-use Rattle.trace.specs.Agreement.{Reached}
 use Rattle.trace.proofs.Shots.{Valid, pictures-gaps, pictures-append, used-least, used-append}
 use Rattle.trace.proofs.Agreement.{with}
-use Rattle.claims.specs.Demand3.{TypedCalls, Typed, FileOf, Accepts, GivenBack, burstIn, readShots, ReadBack, Reads}
-use Rattle.claims.proofs.Lists.{Fine, fine}
-use Rattle.claims.proofs.Back.{gives-back}
+use Rattle.claims.specs.Demand3.{TypedCalls, Genuine, Accepts, GivenBack, burstIn, Reads}
+use Rattle.claims.proofs.Lists.{fine}
+use Rattle.claims.proofs.Back.{gives-back, file-row}
 
 -- ---- bytes and their numbers
 le-unle : (bs : Bytes) → AllBytes bs → le (length bs) (unle bs) ≡ bs
@@ -103,10 +103,10 @@ module _ (key f : Bytes) (fb : AllBytes f) (taken end : ℕ) (he : end ≤ lengt
   sizeAt pos = entryAt f pos .length
 
   abbrev stampAt : ℕ → Bytes
-  stampAt pos = secretIn key f (recordPart f pos)
+  stampAt pos = markIn key f (recordPart f pos)
 
   abbrev pictureIn : ℕ → Bytes
-  pictureIn pos = messageIn key f (recordPart f pos)
+  pictureIn pos = bodyIn key f (recordPart f pos)
 
   abbrev build : ℕ → ℕ → ℕ → ℕ → List Shot
   build zero j n pos = []
@@ -136,42 +136,43 @@ module _ (key f : Bytes) (fb : AllBytes f) (taken end : ℕ) (he : end ≤ lengt
     pub valid : Valid xs
     pub ends : usedBy at xs ≡ end
     pub indexed : index n at xs ≡ take (12 * j) (drop pos f)
-    pub recorded : records key (burstNumberIn f) n at xs ≡ take (end - at) (drop at f)
+    pub recorded : records (rowOf f) key (nameIn f) n at xs ≡ take (end - at) (drop at f)
     pub bytes : ShotBytes xs
 
   record OneRecord (pos n at : ℕ) : Type 0 where
     pub stamp : length (stampAt pos) ≡ 16
     pub picture : length (pictureIn pos) ≡ sizeAt pos
     pub entry : entryBytes n 0 at (sizeAt pos) ≡ take 12 (drop pos f)
-    pub record-is : recordBytes key (burstNumberIn f) n at (stampAt pos) (pictureIn pos) ≡ take (sizeAt pos + 32) (drop at f)
+    pub record-is : recordBytes (rowOf f) key (nameIn f) n at (stampAt pos) (pictureIn pos) ≡ take (sizeAt pos + 32) (drop at f)
     pub stamp-bytes : AllBytes (stampAt pos)
     pub picture-bytes : AllBytes (pictureIn pos)
 
   one-record : (pos n at : ℕ) → pos + 12 ≤ length f → at + sizeAt pos + 32 ≤ length f → shotAt pos ≡ n → entryAt f pos .zeros ≡ 0 → entryAt f pos .offset ≡ at
       → agrees key f (recordPart f pos) ≡ true → OneRecord pos n at
-  unfolding agrees secretIn messageIn recordBytes
+  unfolding agrees markIn bodyIn recordBytes
   one-record pos n at hp ha e₁ e₂ e₃ o =
-      let q = sizes Icepole128 in
+      let e = rowOf f in
+      let name = nameIn f in
       let len = sizeAt pos in
-      let nc = nonceOf (burstNumberIn f) (shotAt pos) in
       let ad = take 12 (drop pos f) in
       let c = take (len + 32) (drop (entryAt f pos .offset) f) in
+      let s = partMark e key name (shotAt pos) ad c in
+      let p = partBody e key name (shotAt pos) ad c in
       let eb : entryBytes n 0 at len ≡ ad = entry-bytes f fb pos n at len hp e₁ e₂ e₃ refl in
       let lc : length c ≡ len + 32 = part-length f fb (len + 32) (entryAt f pos .offset) (omega arith) in
       let cb : AllBytes c = all-take (len + 32) (drop (entryAt f pos .offset) f) (all-drop (entryAt f pos .offset) f fb) in
-      let s = sealed128 key nc ad c (omega arith) o in
-      let lm : length (messageOf q key nc ad c) ≡ len = length-message128 key nc ad c (omega arith) ∙ (let z : length c - 32 ≡ len = omega arith in z) in
+      let lp : length p ≡ len = length-body e key name (shotAt pos) ad c (omega arith) ∙ (let z : length c - sealLength ≡ len = omega arith in z) in
       record {
-        stamp = length-secret128 key nc ad c (omega arith);
-        picture = lm;
+        stamp = length-mark e key name (shotAt pos) ad c (omega arith);
+        picture = lp;
         entry = eb;
         record-is =
-            ap (λ (k : ℕ). sealed q key (nonceOf (burstNumberIn f) n) (secretOf q key nc c) (entryBytes n 0 at k) (messageOf q key nc ad c)) lm
-            ∙ ap₂ (λ (i : ℕ) (a : Bytes). sealed q key (nonceOf (burstNumberIn f) i) (secretOf q key nc c) a (messageOf q key nc ad c)) (sym e₁) eb
-            ∙ sym s
+            ap (λ (k : ℕ). sealPart e key name n s (entryBytes n 0 at k) p) lp
+            ∙ ap₂ (λ (i : ℕ) (a : Bytes). sealPart e key name i s a p) (sym e₁) eb
+            ∙ sym (part-sealed e key name (shotAt pos) ad c (omega arith) o)
             ∙ ap (λ (i : ℕ). take (len + 32) (drop i f)) e₃;
-        stamp-bytes = secret-bytes q key nc ad c cb;
-        picture-bytes = message-bytes q key nc ad c cb;
+        stamp-bytes = mark-bytes e key name (shotAt pos) ad c cb;
+        picture-bytes = body-bytes e key name (shotAt pos) ad c cb;
       }
 
   built-none : (left n pos last at : ℕ) → Rules zero pos last at → Built (build left zero n pos) left zero n pos at
@@ -214,8 +215,8 @@ module _ (key f : Bytes) (fb : AllBytes f) (taken end : ℕ) (he : end ≤ lengt
       ap₂ (λ (l : Bytes) (k : ℕ). l ++ index (n + 1) k ys) (ap (entryBytes n 0 at) lm ∙ o .entry) q
       ∙ ap (λ (l : Bytes). take 12 (drop pos f) ++ l) (b .indexed ∙ ap (take (12 * j)) (sym (drop-drop 12 pos f)))
       ∙ sym (ap (λ (k : ℕ). take k (drop pos f)) q₁ ∙ take-add 12 (12 * j) (drop pos f)) in
-      let rc : recordBytes key (burstNumberIn f) n at s p ++ records key (burstNumberIn f) (n + 1) (at + length p + 32) ys ≡ take (end - at) (drop at f) =
-      ap₂ (λ (l : Bytes) (k : ℕ). l ++ records key (burstNumberIn f) (n + 1) k ys) (o .record-is) q
+      let rc : recordBytes (rowOf f) key (nameIn f) n at s p ++ records (rowOf f) key (nameIn f) (n + 1) (at + length p + 32) ys ≡ take (end - at) (drop at f) =
+      ap₂ (λ (l : Bytes) (k : ℕ). l ++ records (rowOf f) key (nameIn f) (n + 1) k ys) (o .record-is) q
       ∙ ap (λ (l : Bytes). take (len + 32) (drop at f) ++ l) (b .recorded ∙ ap (take (end - (at + len + 32))) (ap (λ (k : ℕ). drop k f) (sym q₃) ∙ sym (drop-drop (len + 32) at f)))
       ∙ sym (ap (λ (k : ℕ). take k (drop at f)) q₂ ∙ take-add (len + 32) (end - (at + len + 32)) (drop at f)) in
       let l₁ = w .0 .least in
@@ -257,50 +258,66 @@ typed-calls [] b = tt
 typed-calls (kept s p ∷ xs) b = (b .0, typed-calls xs (b .1))
 typed-calls (gap ∷ xs) b = typed-calls xs b
 
-module _ (q : Plain) (n : ℕ) where
-  close-yes : (ys : List Shot) → usedBy 32 ys + 12 * pictures ys + 32 ≤ n → afterCall edition1 n (with q ys false) closeBurst ≡ with q ys true
+module _ (ed : Edition) (q : Plain) (n : ℕ) where
+  close-yes : (ys : List Shot) → usedBy (ed .header) ys + 12 * pictures ys + 32 ≤ n → afterCall ed n (with q ys false) closeBurst ≡ with q ys true
   unfolding afterCall numberOf accepted
-  close-yes ys h = simp (sym (close-0 true (pictures ys) (usedBy 32 ys) n refl h))
+  close-yes ys h = simp (sym (close-0 true (pictures ys) (usedBy (ed .header) ys) n refl h))
 
-  drop-yes : (ys : List Shot) → length ys < 60 → afterCall edition1 n (with q ys false) (dropShot byValue) ≡ with q (ys ++ (gap ∷ [])) false
+  drop-yes : (ys : List Shot) → length ys < ed .shots → afterCall ed n (with q ys false) (dropShot byValue) ≡ with q (ys ++ (gap ∷ [])) false
   unfolding afterCall numberOf accepted
-  drop-yes ys h = simp (sym (drop-0 true (length ys) refl h))
+  drop-yes ys h = simp (sym (drop-0 ed true (length ys) refl h))
 
-  keep-yes : (ys : List Shot) (s p : Bytes) → length s ≡ 16 → length ys < 60 → 1 ≤ length p → length p ≤ 1048576 → usedBy 32 ys + length p + 32 + 12 * (pictures ys + 1) + 32 ≤ n
-      → afterCall edition1 n (with q ys false) (keepShot s p) ≡ with q (ys ++ (kept s p ∷ [])) false
+  keep-yes : (ys : List Shot) (s p : Bytes) → length s ≡ 16 → length ys < ed .shots → 1 ≤ length p → length p ≤ 1048576 → usedBy (ed .header) ys + length p + 32 + 12 * (pictures ys + 1) + 32 ≤ n
+      → afterCall ed n (with q ys false) (keepShot s p) ≡ with q (ys ++ (kept s p ∷ [])) false
   unfolding afterCall numberOf accepted
-  keep-yes ys s p h₁ h₂ h₃ h₄ h₅ = simp (sym (keep-0 true (length ys) (pictures ys) (usedBy 32 ys) (length s) (length p) n refl h₁ h₂ h₃ h₄ h₅))
+  keep-yes ys s p h₁ h₂ h₃ h₄ h₅ = simp (sym (keep-0 ed true (length ys) (pictures ys) (usedBy (ed .header) ys) (length s) (length p) n refl h₁ h₂ h₃ h₄ h₅))
 
-  runs : (xs ys : List Shot) → Valid xs → length ys + length xs ≤ 60 → usedBy (usedBy 32 ys) xs + 12 * (pictures ys + pictures xs) + 32 ≤ n
-      → afterCalls edition1 n (with q ys false) (callsOf xs) ≡ with q (ys ++ xs) true
+  runs : (xs ys : List Shot) → Valid xs → length ys + length xs ≤ ed .shots → usedBy (usedBy (ed .header) ys) xs + 12 * (pictures ys + pictures xs) + 32 ≤ n
+      → afterCalls ed n (with q ys false) (callsOf xs) ≡ with q (ys ++ xs) true
   runs [] ys v l h = close-yes ys (omega arith) ∙ ap (λ (zs : List Shot). with q zs true) (sym (append-nil ys))
   runs (kept s p ∷ xs) ys v l h =
-      let a = used-least (usedBy 32 ys + length p + 32) xs in
+      let a = used-least (usedBy (ed .header) ys + length p + 32) xs in
       let e = keep-yes ys s p (v .0 .0) (omega arith) (v .0 .1) (v .0 .2) (omega arith) in
-      let e₁ : usedBy 32 (ys ++ (kept s p ∷ [])) ≡ usedBy 32 ys + length p + 32 = used-append 32 ys (kept s p ∷ []) in
+      let e₁ : usedBy (ed .header) (ys ++ (kept s p ∷ [])) ≡ usedBy (ed .header) ys + length p + 32 = used-append (ed .header) ys (kept s p ∷ []) in
       let e₂ : pictures (ys ++ (kept s p ∷ [])) ≡ pictures ys + 1 = pictures-append ys (kept s p ∷ []) in
       let e₃ : length (ys ++ (kept s p ∷ [])) ≡ length ys + 1 = length-append ys (kept s p ∷ []) in
-      let h₁ : usedBy (usedBy 32 (ys ++ (kept s p ∷ []))) xs + 12 * (pictures (ys ++ (kept s p ∷ [])) + pictures xs) + 32 ≤ n = rw (e₁, e₂) (omega arith) in
-      ap (λ (r : Plain). afterCalls edition1 n r (callsOf xs)) e ∙ runs xs (ys ++ (kept s p ∷ [])) (v .1) (omega arith) h₁ ∙ ap (λ (zs : List Shot). with q zs true) (append-assoc ys (kept s p ∷ []) xs)
+      let h₁ : usedBy (usedBy (ed .header) (ys ++ (kept s p ∷ []))) xs + 12 * (pictures (ys ++ (kept s p ∷ [])) + pictures xs) + 32 ≤ n = rw (e₁, e₂) (omega arith) in
+      ap (λ (r : Plain). afterCalls ed n r (callsOf xs)) e ∙ runs xs (ys ++ (kept s p ∷ [])) (v .1) (omega arith) h₁ ∙ ap (λ (zs : List Shot). with q zs true) (append-assoc ys (kept s p ∷ []) xs)
   runs (gap ∷ xs) ys v l h =
       let e = drop-yes ys (omega arith) in
-      let e₁ : usedBy 32 (ys ++ (gap ∷ [])) ≡ usedBy 32 ys = used-append 32 ys (gap ∷ []) in
+      let e₁ : usedBy (ed .header) (ys ++ (gap ∷ [])) ≡ usedBy (ed .header) ys = used-append (ed .header) ys (gap ∷ []) in
       let e₂ : pictures (ys ++ (gap ∷ [])) ≡ pictures ys + 0 = pictures-append ys (gap ∷ []) in
       let e₃ : length (ys ++ (gap ∷ [])) ≡ length ys + 1 = length-append ys (gap ∷ []) in
-      let h₁ : usedBy (usedBy 32 (ys ++ (gap ∷ []))) xs + 12 * (pictures (ys ++ (gap ∷ [])) + pictures xs) + 32 ≤ n = rw (e₁, e₂) (omega arith) in
-      ap (λ (r : Plain). afterCalls edition1 n r (callsOf xs)) e ∙ runs xs (ys ++ (gap ∷ [])) v (omega arith) h₁ ∙ ap (λ (zs : List Shot). with q zs true) (append-assoc ys (gap ∷ []) xs)
+      let h₁ : usedBy (usedBy (ed .header) (ys ++ (gap ∷ []))) xs + 12 * (pictures (ys ++ (gap ∷ [])) + pictures xs) + 32 ≤ n = rw (e₁, e₂) (omega arith) in
+      ap (λ (r : Plain). afterCalls ed n r (callsOf xs)) e ∙ runs xs (ys ++ (gap ∷ [])) v (omega arith) h₁ ∙ ap (λ (zs : List Shot). with q zs true) (append-assoc ys (gap ∷ []) xs)
 
 -- ---- a header's bytes
-header-bytes : (f : Bytes) → AllBytes f → 32 ≤ length f → (t k d n u : ℕ) → leAt 2 f 0 ≡ 1 → leAt 2 f 2 ≡ t → leAt 2 f 4 ≡ k → leAt 2 f 6 ≡ d → leAt 8 f 8 ≡ n → leAt 4 f 16 ≡ 32 → leAt 4 f 20 ≡ u
-    → leAt 4 f 24 ≡ u + 12 * k → leAt 4 f 28 ≡ u + 12 * k + 32 → headerBytes edition1 t k d n u ≡ take 32 f
+zeros-are : (l : Bytes) → allZero l ≡ true → l ≡ replicate (length l) 0
+zeros-are [] h = refl
+zeros-are (x ∷ xs) h = let g = and-true (eqb x 0) (allZero xs) h in ap₂ (λ (y : ℕ) (l : Bytes). y ∷ l) (eqb-true _ _ (g .0)) (zeros-are xs (g .1))
+
+rest-bytes : (f : Bytes) (e : Edition) (name : Name) → Known e → e .header ≤ length f → restRules e f ≡ true → take (e .header) f ≡ take fieldsLength f ++ headerRest e name
+unfolding restRules headerRest
+rest-bytes f e name k h z =
+    let g = k .least in
+    let l : length (drop fieldsLength (take (e .header) f)) ≡ e .header - fieldsLength = length-drop fieldsLength (take (e .header) f) ∙ ap (λ (n : ℕ). n - fieldsLength) (length-take-le (e .header) f h) in
+    sym (take-append-drop fieldsLength (take (e .header) f))
+    ∙ ap₂ (λ (x y : Bytes). x ++ y) (take-take fieldsLength (e .header) f g) (zeros-are _ z ∙ ap (λ (n : ℕ). replicate n 0) l)
+
+header-bytes : (e : Edition) → Known e → (name : Name) (f : Bytes) → AllBytes f → e .header ≤ length f → restRules e f ≡ true
+    → (t k d u : ℕ) → leAt 2 f 0 ≡ e .number → leAt 2 f 2 ≡ t → leAt 2 f 4 ≡ k → leAt 2 f 6 ≡ d → leAt 8 f 8 ≡ name .burst → leAt 4 f 16 ≡ e .header → leAt 4 f 20 ≡ u
+    → leAt 4 f 24 ≡ u + 12 * k → leAt 4 f 28 ≡ u + 12 * k + 32 → headerBytes e name t k d u ≡ take (e .header) f
 unfolding headerBytes
-header-bytes f fb h t k d n u e₀ e₁ e₂ e₃ e₄ e₅ e₆ e₇ e₈ =
-    let g₀ : le 2 1 ≡ take 2 f = ap (le 2) (sym e₀) ∙ le-at f fb 2 0 (omega arith) in
+header-bytes e known name f fb h z t k d u e₀ e₁ e₂ e₃ e₄ e₅ e₆ e₇ e₈ =
+    let n = name .burst in
+    let w = known .least in
+    let rb = rest-bytes f e name known h z in
+    let g₀ : le 2 (e .number) ≡ take 2 f = ap (le 2) (sym e₀) ∙ le-at f fb 2 0 (omega arith) in
     let g₁ : le 2 t ≡ take 2 (drop 2 f) = ap (le 2) (sym e₁) ∙ le-at f fb 2 2 (omega arith) in
     let g₂ : le 2 k ≡ take 2 (drop 4 f) = ap (le 2) (sym e₂) ∙ le-at f fb 2 4 (omega arith) in
     let g₃ : le 2 d ≡ take 2 (drop 6 f) = ap (le 2) (sym e₃) ∙ le-at f fb 2 6 (omega arith) in
     let g₄ : le 8 n ≡ take 8 (drop 8 f) = ap (le 8) (sym e₄) ∙ le-at f fb 8 8 (omega arith) in
-    let g₅ : le 4 32 ≡ take 4 (drop 16 f) = ap (le 4) (sym e₅) ∙ le-at f fb 4 16 (omega arith) in
+    let g₅ : le 4 (e .header) ≡ take 4 (drop 16 f) = ap (le 4) (sym e₅) ∙ le-at f fb 4 16 (omega arith) in
     let g₆ : le 4 u ≡ take 4 (drop 20 f) = ap (le 4) (sym e₆) ∙ le-at f fb 4 20 (omega arith) in
     let g₇ : le 4 (u + 12 * k) ≡ take 4 (drop 24 f) = ap (le 4) (sym e₇) ∙ le-at f fb 4 24 (omega arith) in
     let g₈ : le 4 (u + 12 * k + 32) ≡ take 4 (drop 28 f) = ap (le 4) (sym e₈) ∙ le-at f fb 4 28 (omega arith) in
@@ -312,7 +329,9 @@ header-bytes f fb h t k d n u e₀ e₁ e₂ e₃ e₄ e₅ e₆ e₇ e₈ =
     let p₅ = next 4 16 12 in
     let p₆ = next 4 20 8 in
     let p₇ = next 4 24 4 in
-    cc (g₀, g₁, g₂, g₃, g₄, g₅, g₆, g₇, g₈, p₀, p₁, p₂, p₃, p₄, p₅, p₆, p₇)
+    let fixed : le 2 (e .number) ++ (le 2 t ++ (le 2 k ++ (le 2 d ++ (le 8 n ++ (le 4 (e .header) ++ (le 4 u ++ (le 4 (u + 12 * k) ++ le 4 (u + 12 * k + 32)))))))) ≡ take fieldsLength f =
+    cc (g₀, g₁, g₂, g₃, g₄, g₅, g₆, g₇, g₈, p₀, p₁, p₂, p₃, p₄, p₅, p₆, p₇) in
+    ap (λ (r : Bytes). r ++ headerRest e name) fixed ∙ sym rb
   where
     next : (i at j : ℕ) → take (i + j) (drop at f) ≡ take i (drop at f) ++ take j (drop (at + i) f)
     next i at j = take-add i j (drop at f) ∙ ap (λ (r : Bytes). take i (drop at f) ++ take j r) (drop-drop i at f)
@@ -341,13 +360,13 @@ module _ (key f : Bytes) (kb : AllBytes key) (fb : AllBytes f) (ok : Accepted ke
   abbrev xs : List Shot
   xs = build key f fb (takenIn f) i within (takenIn f) k 1 i
 
-  made : Built key f fb (takenIn f) i within xs (takenIn f) k 1 i 32
+  made : Built key f fb (takenIn f) i within xs (takenIn f) k 1 i (rowOf f .header)
   made =
-      built key f fb (takenIn f) i within (takenIn f) k 1 i 0 32 (omega arith) (omega arith) (fr .index)
-      (ahead key f fb (takenIn f) i within k i 0 32 1 (omega arith) (fr .index)) (let w = end-is in omega arith) (ok .records)
+      built key f fb (takenIn f) i within (takenIn f) k 1 i 0 (rowOf f .header) (omega arith) (omega arith) (fr .index)
+      (ahead key f fb (takenIn f) i within k i 0 (rowOf f .header) 1 (omega arith) (fr .index)) (let w = end-is in omega arith) (ok .records)
 
   abbrev m : Bytes
-  m = secretIn key f (closingPart f)
+  m = markIn key f (closingPart f)
 
   last : length (drop (i + 12 * k) f) ≡ 32
   last = let w = end-is in length-drop (i + 12 * k) f ∙ (let q : length f - (i + 12 * k) ≡ 32 = omega arith in q)
@@ -358,36 +377,41 @@ module _ (key f : Bytes) (kb : AllBytes key) (fb : AllBytes f) (ok : Accepted ke
   last-length : length (take (0 + 32) (drop (i + 12 * k) f)) ≡ 32
   last-length = ap length all-of-last ∙ last
 
+  abbrev ad : Bytes
+  ad = take (rowOf f .header) f ++ take (12 * k) (drop i f)
+
+  abbrev c : Bytes
+  c = take (0 + 32) (drop (i + 12 * k) f)
+
   site16 : length m ≡ 16
-  unfolding secretIn
-  site16 = length-secret128 key (nonceOf (burstNumberIn f) 0) [] (take (0 + 32) (drop (i + 12 * k) f)) (let w = last-length in omega arith)
+  unfolding markIn
+  site16 = length-mark (rowOf f) key (nameIn f) 0 ad c (let w = last-length in omega arith)
 
   site-bytes : AllBytes m
-  unfolding secretIn
-  site-bytes = secret-bytes (sizes Icepole128) key (nonceOf (burstNumberIn f) 0) [] (take (0 + 32) (drop (i + 12 * k) f)) (all-take (0 + 32) (drop (i + 12 * k) f) (all-drop (i + 12 * k) f fb))
+  unfolding markIn
+  site-bytes = mark-bytes (rowOf f) key (nameIn f) 0 ad c (all-take (0 + 32) (drop (i + 12 * k) f) (all-drop (i + 12 * k) f fb))
 
-  closing-is : sealed (sizes Icepole128) key (nonceOf (burstNumberIn f) 0) m (take 32 f ++ take (12 * k) (drop i f)) [] ≡ drop (i + 12 * k) f
-  unfolding agrees secretIn
+  closing-is : sealPart (rowOf f) key (nameIn f) 0 m ad [] ≡ drop (i + 12 * k) f
+  unfolding agrees markIn
   closing-is =
-      let q = sizes Icepole128 in
-      let nc = nonceOf (burstNumberIn f) 0 in
-      let ad = take 32 f ++ take (12 * k) (drop i f) in
-      let c = take (0 + 32) (drop (i + 12 * k) f) in
       let l = last-length in
-      let e = length-message128 key nc ad c (omega arith) in
-      let z : messageOf q key nc ad c ≡ [] = length-zero _ (e ∙ (let y : length c - 32 ≡ 0 = omega arith in y)) in
-      ap (λ (x : Bytes). sealed q key nc (secretOf q key nc c) ad x) (sym z) ∙ sym (sealed128 key nc ad c (omega arith) (ok .closing)) ∙ all-of-last
+      let e = length-body (rowOf f) key (nameIn f) 0 ad c (omega arith) in
+      let z : partBody (rowOf f) key (nameIn f) 0 ad c ≡ [] = length-zero _ (e ∙ (let y : length c - sealLength ≡ 0 = omega arith in y)) in
+      ap (sealPart (rowOf f) key (nameIn f) 0 m ad) (sym z) ∙ sym (part-sealed (rowOf f) key (nameIn f) 0 ad c (omega arith) (ok .closing)) ∙ all-of-last
+
+  abbrev who : Identity
+  who = record { name = nameIn f; siteMark = m }
 
   abbrev l : CallList
-  l = record { key = key; identity = record { burstNumber = burstNumberIn f; siteMark = m }; bufferLength = length f; calls = callsOf xs }
+  l = record { key = key; identity = who; bufferLength = length f; calls = callsOf xs }
 
   abbrev p : Plain
-  p = record { key = key; identity = record { burstNumber = burstNumberIn f; siteMark = m }; shots = xs; closed = true }
+  p = record { key = key; identity = who; shots = xs; closed = true }
 
-  begins-0 : beginRefusal edition1 l ≡ 0
-  begins-0 = sym (begin-0 (length key) (length m) (length f) (ok .key16) site16 (fr .least))
+  begins-0 : beginRefusal (rowOf f) l ≡ 0
+  begins-0 = sym (begin-0 (rowOf f) (length key) (length m) (length f) (ok .key16) site16 (fr .least))
 
-  plain-is : plainOf edition1 l ≡ p
+  plain-is : plainOf (rowOf f) l ≡ p
   unfolding plainOf begun
   plain-is =
       let b = made in
@@ -396,51 +420,50 @@ module _ (key f : Bytes) (kb : AllBytes key) (fb : AllBytes f) (ok : Accepted ke
       let c₃ = b .size in
       let w = end-is in
       let c₄ = fr .most in
-      simp begins-0 (runs p (length f) xs [] (b .valid) (omega arith) (omega arith))
+      simp begins-0 (runs (rowOf f) p (length f) xs [] (b .valid) (omega arith) (omega arith))
 
-  heads : headerBytes edition1 (length xs) (pictures xs) (gaps xs) (burstNumberIn f) (usedBy 32 xs) ≡ take 32 f
+  heads : headerBytes (rowOf f) (nameIn f) (length xs) (pictures xs) (gaps xs) (usedBy (rowOf f .header) xs) ≡ take (rowOf f .header) f
   heads =
       let b = made in
       let g : gaps xs ≡ droppedIn f = let c₁ = b .kept in let c₂ = b .size in let c₃ = fr .counts in let c₄ = pictures-gaps xs in omega arith in
-      let e : headerBytes edition1 (takenIn f) k (droppedIn f) (burstNumberIn f) i ≡ take 32 f =
-      header-bytes f fb (let a = fr .least in omega arith) (takenIn f) k (droppedIn f) (burstNumberIn f) i (fr .edition) refl refl refl refl (fr .pictures) refl (fr .closing)
+      let e : headerBytes (rowOf f) (nameIn f) (takenIn f) k (droppedIn f) i ≡ take (rowOf f .header) f =
+      header-bytes (rowOf f) (fr .known) (nameIn f) f fb (let a = fr .least in omega arith) (fr .rest) (takenIn f) k (droppedIn f) i (fr .edition) refl refl refl refl (fr .pictures) refl (fr .closing)
       (fr .total ∙ ap (λ (n : ℕ). n + 32) (fr .closing)) in
       cc (b .size, b .kept, g, b .ends, e)
 
-  file-is : fileOf edition1 p ≡ f
+  file-is : fileOf (rowOf f) p ≡ f
   unfolding fileOf headerOf indexOf closingSeal
   file-is =
       let b = made in
-      let hd = headerBytes edition1 (length xs) (pictures xs) (gaps xs) (burstNumberIn f) (usedBy 32 xs) in
-      let ix = index 1 32 xs in
-      let e₁ : hd ≡ take 32 f = heads in
+      let hd = headerBytes (rowOf f) (nameIn f) (length xs) (pictures xs) (gaps xs) (usedBy (rowOf f .header) xs) in
+      let ix = index 1 (rowOf f .header) xs in
+      let e₁ : hd ≡ take (rowOf f .header) f = heads in
       let e₂ : ix ≡ take (12 * k) (drop i f) = b .indexed in
-      let e₃ : records key (burstNumberIn f) 1 32 xs ≡ take (i - 32) (drop 32 f) = b .recorded in
-      let cl : sealed (sizes Icepole128) key (nonceOf (burstNumberIn f) 0) m (hd ++ ix) [] ≡ drop (i + 12 * k) f =
-      ap₂ (λ (x y : Bytes). sealed (sizes Icepole128) key (nonceOf (burstNumberIn f) 0) m (x ++ y) []) e₁ e₂ ∙ closing-is in
+      let e₃ : records (rowOf f) key (nameIn f) 1 (rowOf f .header) xs ≡ take (i - rowOf f .header) (drop (rowOf f .header) f) = b .recorded in
+      let cl : sealPart (rowOf f) key (nameIn f) 0 m (hd ++ ix) [] ≡ drop (i + 12 * k) f =
+      ap₂ (λ (x y : Bytes). sealPart (rowOf f) key (nameIn f) 0 m (x ++ y) []) e₁ e₂ ∙ closing-is in
       let d₁ : take (12 * k) (drop i f) ++ drop (i + 12 * k) f ≡ drop i f = ap (λ (r : Bytes). take (12 * k) (drop i f) ++ r) (sym (drop-drop (12 * k) i f)) ∙ take-append-drop (12 * k) (drop i f) in
-      let q : 32 + (i - 32) ≡ i = let a = at-most key f fb (takenIn f) i within k i 0 32 (fr .index) in omega arith in
-      let d₂ : take (i - 32) (drop 32 f) ++ drop i f ≡ drop 32 f =
-      ap (λ (r : Bytes). take (i - 32) (drop 32 f) ++ r) (ap (λ (n : ℕ). drop n f) (sym q) ∙ sym (drop-drop (i - 32) 32 f)) ∙ take-append-drop (i - 32) (drop 32 f) in
-      let d₃ : take 32 f ++ drop 32 f ≡ f = take-append-drop 32 f in
+      let q : rowOf f .header + (i - rowOf f .header) ≡ i = let a = at-most key f fb (takenIn f) i within k i 0 (rowOf f .header) (fr .index) in omega arith in
+      let d₂ : take (i - rowOf f .header) (drop (rowOf f .header) f) ++ drop i f ≡ drop (rowOf f .header) f =
+      ap (λ (r : Bytes). take (i - rowOf f .header) (drop (rowOf f .header) f) ++ r) (ap (λ (n : ℕ). drop n f) (sym q) ∙ sym (drop-drop (i - rowOf f .header) (rowOf f .header) f)) ∙ take-append-drop (i - rowOf f .header) (drop (rowOf f .header) f) in
+      let d₃ : take (rowOf f .header) f ++ drop (rowOf f .header) f ≡ f = take-append-drop (rowOf f .header) f in
       cc (e₁, e₂, e₃, cl, d₁, d₂, d₃)
 
   short : length f < 2 ^ 63
-  short = let s = fr .size in let a = fr .least in let u = less-at f fb 4 28 (omega arith) in omega arith
+  short = let kn = fr .known in let s = fr .size in let a = fr .least in let u = less-at f fb 4 28 (omega arith) in omega arith
 
-  pub file-of : FileOf key f
+  pub file-of : Genuine key f
   file-of = record {
+    edition = rowOf f;
     list = l;
-    typed = record {
-      key = kb;
-      burstNumber = less-at f fb 8 8 (let a = fr .least in omega arith);
-      siteMark = site-bytes;
-      buffer = short;
-      calls = typed-calls xs (made .bytes);
+    filed = record {
+      listed = numbered-among _;
+      named = less-at f fb 8 8 (let kn = fr .known in let a = fr .least in omega arith);
+      reached = record { begun = begins-0; closed = ap (λ (x : Plain). x .closed) plain-is };
     };
+    typed = record { key = kb; siteMark = site-bytes; buffer = short; calls = typed-calls xs (made .bytes) };
     keyed = refl;
-    reached = record { begun = begins-0; closed = ap (λ (x : Plain). x .closed) plain-is };
-    file = ap (fileOf edition1) plain-is ∙ file-is;
+    file = ap (fileOf (rowOf f)) plain-is ∙ file-is;
   }
 
 check-number : (key f : Bytes) → checkAnswer key f .refusal ≡ checkNumber key f
@@ -451,29 +474,33 @@ pub accepts : Accepts
 accepts key f kb fb = (
   λ h. file-of key f kb fb (obeyed key f (sym (check-number key f) ∙ h)),
   λ w.
-      let e : checkAnswer (w .list .key) (fileOf edition1 (plainOf edition1 (w .list))) .refusal ≡ 0 =
-      ap (λ (x : Checked). x .refusal) (gives-back (w .list) (w .typed .burstNumber) (w .reached) .checked) in
-      subst (λ (x : Bytes). checkAnswer key x .refusal ≡ 0) (w .file) (subst (λ (x : Bytes). checkAnswer x (fileOf edition1 (plainOf edition1 (w .list))) .refusal ≡ 0) (w .keyed) e),
+      let ed = w .edition in
+      let e : checkAnswer (w .list .key) (fileOf ed (plainOf ed (w .list))) .refusal ≡ 0 =
+      ap (λ (x : Checked). x .refusal) (gives-back ed (w .list) (w .filed) .checked) in
+      subst (λ (x : Bytes). checkAnswer key x .refusal ≡ 0) (w .file) (subst (λ (x : Bytes). checkAnswer x (fileOf ed (plainOf ed (w .list))) .refusal ≡ 0) (w .keyed) e),
 )
 
 -- ---- what is read back of an accepted file
-same-file : (p q : Plain) → p .key ≡ q .key → p .identity ≡ q .identity → p .shots ≡ q .shots → fileOf edition1 p ≡ fileOf edition1 q
+same-file : (ed : Edition) (p q : Plain) → p .key ≡ q .key → p .identity ≡ q .identity → p .shots ≡ q .shots → fileOf ed p ≡ fileOf ed q
 unfolding fileOf headerOf indexOf
-same-file p q e₁ e₂ e₃ = cc
+same-file ed p q e₁ e₂ e₃ = cc
 
 pub reads : Reads
 reads key f kb fb h =
     let w = accepts key f kb fb .0 h in
-    let p = plainOf edition1 (w .list) in
-    let g₀ = gives-back (w .list) (w .typed .burstNumber) (w .reached) in
-    let g = subst (λ (x : Bytes). GivenBack key x p) (w .file) (subst (λ (x : Bytes). GivenBack x (fileOf edition1 p) p) (w .keyed) g₀) in
+    let ed = w .edition in
+    let p = plainOf ed (w .list) in
+    let g₀ = gives-back ed (w .list) (w .filed) in
+    let g = subst (λ (x : Bytes). GivenBack ed key x p) (w .file) (subst (λ (x : Bytes). GivenBack ed x (fileOf ed p) p) (w .keyed) g₀) in
     let c = g .checked in
-    let fp = fine (w .list) (w .reached) in
+    let fp = fine ed (w .list) (w .filed .reached) in
+    let own : rowOf f ≡ ed = ap rowOf (sym (w .file)) ∙ file-row ed (w .list) (w .filed) in
     record {
       counts = ap (λ (x : Checked). x .taken) c ∙ g .counts ∙ sym (ap₂ (λ (a b : ℕ). a + b) (ap (λ (x : Checked). x .kept) c) (ap (λ (x : Checked). x .dropped) c));
       file =
-          same-file (burstIn key f) p (sym (fp .key ∙ w .keyed))
-          (ap₂ (λ (n : ℕ) (m : Bytes). let i : Identity = record { burstNumber = n; siteMark = m } in i) (ap (λ (x : Checked). x .«burst_number») c) (ap (λ (x : Checked). x .«site_mark») c))
+          ap (λ (x : Edition). fileOf x (burstIn key f)) own
+          ∙ same-file ed (burstIn key f) p (sym (fp .key ∙ w .keyed))
+          (ap₂ (λ (n : ℕ) (m : Bytes). let i : Identity = record { name = record { burst = n }; siteMark = m } in i) (ap (λ (x : Checked). x .«burst_number») c) (ap (λ (x : Checked). x .«site_mark») c))
           (g .shots)
           ∙ w .file;
     }

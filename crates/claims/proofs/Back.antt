@@ -1,180 +1,190 @@
 -- Demand 3: the reader gives the list back, no file belongs to two bursts, and what is refused is withheld.
 -- Assumes nothing.
-use mathlib.Core.Bool.{Bool, true, false, not, _&&_}
-use mathlib.Core.List.{List, [], _∷_, _++_, append-assoc, append-nil}
-use mathlib.Core.Option.{Option, some, none, Option·some-injective}
+use mathlib.Core.Bool.{true}
+use mathlib.Core.List.{List, [], _∷_, _++_, append-nil}
+use mathlib.Core.Option.{some, none, Option·some-injective}
 use mathlib.Core.Path.{_≡_, refl, sym, ap, ap₂, subst, _∙_}
 use Prim.Native.Nat.{ℕ, zero, suc, _+_, _-_, _*_, _^_, _≤_, _<_}
 use native.Mathlib.Omega.{arith}
 use native.Mathlib.Nat.{add-zero}
 use borrow.Author.Tests.{le-leb, eq-eqb, ne-eqb}
-use lib.Dec.{eqb}
-use lib.ListN.{length, take, drop, replicate, length-append, length-replicate}
+use lib.ListN.{length, take, drop, length-append, length-replicate}
 use lib.Seq.{take-at, drop-at, drop-drop}
 use Rattle.bytes_le.specs.Bytes.{Bytes, putBytes}
 use Rattle.bytes_le.proofs.Laws.{take-put}
-use Rattle.icepole.specs.declared.Variant.the-variants.{Icepole128}
-use Rattle.icepole.specs.Variants.{sizes}
-use Rattle.icepole.specs.Sealing.{pick, secretOf}
-use Rattle.icepole.specs.Answers.{tagAgrees}
 use Rattle.burst.specs.declared.Entry.{Entry}
-use Rattle.burst.specs.Layout.{edition1, maxPicture, Identity, nonceOf, headerBytes, recordBytes, closingSeal}
+use Rattle.burst.specs.declared.Edition.{Edition}
+use Rattle.burst.specs.declared.Name.{Name}
+use Rattle.burst.specs.Editions.{maxEntries, numbered, Known}
+use Rattle.burst.specs.Parts.{Fits, partAgrees, partMark}
+use Rattle.burst.specs.Layout.{maxPicture, Identity, headerBytes, recordBytes, closingSeal}
 use Rattle.burst.specs.Index.{indexRules}
 use Rattle.burst.specs.Plain.{Shot, kept, gap, pictures, gaps, usedBy, records, index, Plain, headerOf, indexOf, fileOf, CallList, plainOf}
+use Rattle.burst.proofs.Rows.{known, written-among}
 use Rattle.burst.proofs.Puts.{length-header}
-use Rattle.burst.proofs.Sealer.{agrees128, secret128}
+use Rattle.burst.proofs.Parts.{part-agrees, part-mark}
 use Rattle.reader.specs.declared.Checked.{Checked}
 use Rattle.reader.specs.declared.Fetched.{Fetched}
-use Rattle.reader.specs.Front.{headerIn, takenIn, keptIn, burstNumberIn, indexOffsetIn, entryAt, entriesAt, positionOf, frontRules}
-use Rattle.reader.specs.Reader.{closingPart, recordPart, recordParts, agrees, secretIn, messageIn, firstDiffering, checkNumber, checkMark, checkAnswer, recordNumber, recordOffset, recordBytesIn, notChecked, notFetched, fetchNumber, fetchAnswer, fetchOutput}
-use Rattle.reader.proofs.Rules.{front-is}
+use Rattle.reader.specs.Front.{rowOf, nameIn, headerIn, takenIn, keptIn, indexOffsetIn, entryAt, entriesAt, positionOf, frontRules}
+use Rattle.reader.specs.Reader.{closingPart, recordParts, agrees, markIn, firstDiffering, checkNumber, checkMark, checkAnswer, recordNumber, recordOffset, recordBytesIn, notChecked, notFetched, fetchNumber, fetchAnswer, fetchOutput}
+use Rattle.reader.proofs.Rules.{front-is, front-at}
 use Rattle.reader.proofs.Answers.{check-not, check-zero, check-0, Found, found, record-zero, record-refused, record-done, fetch-0, fetch-not, fetch-refused}
-use Rattle.trace.specs.Agreement.{Reached}
+use Rattle.trace.specs.Agreement.{editionFor}
 use Rattle.trace.proofs.Agreement.{agreement}
-use Rattle.trace.proofs.Shots.{Valid, entries, pictures-gaps, used-least, used-most, length-index, length-records, length-closing, sound-entries}
-use Rattle.claims.specs.Demand3.{SameBurst, OneBurst, Numbered, Picture, pictureAt, whole, readFrom, readShots, GivenBack, GivesBack, OnCard, Withheld, Withholds}
-use Rattle.claims.proofs.Lists.{Fine, fine, zero-or-not}
+use Rattle.trace.proofs.Shots.{Valid, pictures-gaps, used-least, used-most, length-index, length-records, length-closing, sound-entries}
+use Rattle.claims.specs.Demand3.{SameBurst, Filed, OneBurst, Picture, pictureAt, whole, readFrom, readShots, GivenBack, GivesBack, OnCard, Withheld, Withholds}
+use Rattle.claims.proofs.Lists.{fine, zero-or-not}
 use Rattle.claims.proofs.Reading.{HeaderIn, header-in, entries-read, records-agree, Placed, placed, every, below}
 
 -- ---- the file of a plain burst
-module _ (p : Plain) (valid : Valid (p .shots)) (most : length (p .shots) ≤ 60) (key16 : length (p .key) ≡ 16) (site16 : length (p .identity .siteMark) ≡ 16)
-    (fits : p .identity .burstNumber < 18446744073709551616) where
+module _ (ed : Edition) (known-ed : Known ed) (p : Plain) (valid : Valid (p .shots)) (most : length (p .shots) ≤ ed .shots) (key16 : length (p .key) ≡ 16) (site16 : length (p .identity .siteMark) ≡ 16)
+    (fits : Fits ed (p .identity .name)) where
   abbrev xs : List Shot
   xs = p .shots
 
+  few : length xs ≤ maxEntries
+  few = let k = known-ed in omega arith
+
   abbrev f : Bytes
-  f = fileOf edition1 p
+  f = fileOf ed p
 
   abbrev u : ℕ
-  u = usedBy 32 xs
+  u = usedBy (ed .header) xs
 
   abbrev hd : Bytes
-  hd = headerBytes edition1 (length xs) (pictures xs) (gaps xs) (p .identity .burstNumber) u
+  hd = headerBytes ed (p .identity .name) (length xs) (pictures xs) (gaps xs) u
 
   abbrev rs : Bytes
-  rs = records (p .key) (p .identity .burstNumber) 1 32 xs
+  rs = records ed (p .key) (p .identity .name) 1 (ed .header) xs
 
   abbrev ix : Bytes
-  ix = index 1 32 xs
+  ix = index 1 (ed .header) xs
 
   abbrev cl : Bytes
-  cl = closingSeal (p .key) (p .identity) hd ix
+  cl = closingSeal ed (p .key) (p .identity) hd ix
 
   split : f ≡ hd ++ (rs ++ (ix ++ cl))
   unfolding fileOf headerOf indexOf
   split = refl
 
-  bound : u + 12 * pictures xs + 32 < 4294967296
-  bound = let a = used-most 32 xs valid in let c = pictures-gaps xs in omega arith
+  bound : u + 12 * pictures xs + 32 < 2 ^ 32
+  bound = let b = known-ed in let a = used-most (ed .header) xs valid in let c = pictures-gaps xs in omega arith
 
-  headed : HeaderIn f (rs ++ (ix ++ cl)) (length xs) (pictures xs) (gaps xs) (p .identity .burstNumber) u
-  headed = let c = pictures-gaps xs in header-in f _ _ _ _ _ _ (omega arith) (omega arith) (omega arith) fits bound split
+  headed : HeaderIn ed known-ed (p .identity .name) f (rs ++ (ix ++ cl)) (length xs) (pictures xs) (gaps xs) u
+  headed = let c = pictures-gaps xs in let b = known-ed in header-in ed known-ed (p .identity .name) f _ _ _ _ _ (omega arith) (omega arith) (omega arith) fits bound split
 
-  recorded : drop 32 f ≡ records (p .key) (burstNumberIn f) 1 32 xs ++ (ix ++ cl)
-  recorded = headed .next ∙ ap (λ (n : ℕ). records (p .key) n 1 32 xs ++ (ix ++ cl)) (sym (headed .burst))
+  row : rowOf f ≡ ed
+  row = ap numbered (headed .edition) ∙ known-ed .back
+
+  recorded : drop (ed .header) f ≡ records (rowOf f) (p .key) (nameIn f) 1 (ed .header) xs ++ (ix ++ cl)
+  recorded =
+      headed .next ∙ ap₂ (λ (x : Edition) (n : Name). records x (p .key) n 1 (ed .header) xs ++ (ix ++ cl)) (sym row) (sym (headed .named))
 
   indexed : drop u f ≡ ix ++ cl
   indexed =
-      let l = length-records (p .key) (p .identity .burstNumber) 1 32 xs valid in
-      ap (λ (n : ℕ). drop n f) (sym l) ∙ sym (drop-drop (length rs) 32 f) ∙ ap (drop (length rs)) (headed .next) ∙ drop-at rs (ix ++ cl) (length rs) refl
+      let l = length-records ed (p .key) (p .identity .name) 1 (ed .header) xs valid in
+      ap (λ (n : ℕ). drop n f) (sym l) ∙ sym (drop-drop (length rs) (ed .header) f) ∙ ap (drop (length rs)) (headed .next) ∙ drop-at rs (ix ++ cl) (length rs) refl
 
   indexed-bytes : take (12 * pictures xs) (drop u f) ≡ ix
-  indexed-bytes = ap (take (12 * pictures xs)) indexed ∙ take-at ix cl (12 * pictures xs) (length-index 1 32 xs)
+  indexed-bytes = ap (take (12 * pictures xs)) indexed ∙ take-at ix cl (12 * pictures xs) (length-index 1 (ed .header) xs)
 
   closed-at : drop (u + 12 * pictures xs) f ≡ cl
-  closed-at = sym (drop-drop (12 * pictures xs) u f) ∙ ap (drop (12 * pictures xs)) indexed ∙ drop-at ix cl (12 * pictures xs) (length-index 1 32 xs)
+  closed-at = sym (drop-drop (12 * pictures xs) u f) ∙ ap (drop (12 * pictures xs)) indexed ∙ drop-at ix cl (12 * pictures xs) (length-index 1 (ed .header) xs)
 
   length-cl : length cl ≡ 0 + 32
-  length-cl = length-closing (p .key) (p .identity) hd ix site16
+  length-cl = length-closing ed (p .key) (p .identity) hd ix site16
 
   length-file : length f ≡ u + 12 * pictures xs + 32
   length-file =
-      let a = length-header (length xs) (pictures xs) (gaps xs) (p .identity .burstNumber) u in
-      let b = length-records (p .key) (p .identity .burstNumber) 1 32 xs valid in
-      let c = length-index 1 32 xs in
+      let a = length-header ed known-ed (p .identity .name) (length xs) (pictures xs) (gaps xs) u in
+      let b = length-records ed (p .key) (p .identity .name) 1 (ed .header) xs valid in
+      let c = length-index 1 (ed .header) xs in
       let d = length-cl in
       ap length split ∙ simp length-append (omega arith)
 
-  front-holds : frontRules edition1 f ≡ true
+  front-holds : frontRules f ≡ true
   front-holds =
-      let a = used-least 32 xs in
+      let a = used-least (ed .header) xs in
       let lf = length-file in
       let h = headed in
-      sym
-      (front-is f (omega arith) (h .edition) (h .pictures) (let t = h .taken in omega arith)
+      sym (front-at ed f (sym row))
+      ∙ sym
+      (front-is ed f (omega arith) (h .edition) (h .pictures) (let t = h .taken in omega arith)
       (h .taken ∙ pictures-gaps xs ∙ sym (ap₂ (λ (i j : ℕ). i + j) (h .kept) (h .dropped)))
       (h .closing ∙ sym (ap₂ (λ (i j : ℕ). i + 12 * j) (h .index) (h .kept)))
-      (h .total ∙ ap (λ (i : ℕ). i + 32) (sym (h .closing))) (h .total ∙ sym lf))
-      ∙ ap₂ (λ (i k : ℕ). indexRules 0 32 (takenIn f) i (entriesAt k i f)) (h .index) (h .kept)
-      ∙ ap (λ (t : ℕ). indexRules 0 32 t u (entriesAt (pictures xs) u f)) (h .taken)
-      ∙ ap (indexRules 0 32 (length xs) u) (entries-read f (p .key) (length xs) u most (let c = bound in omega arith) xs 1 32 u cl valid (omega arith) refl indexed)
-      ∙ sound-entries xs 1 32 0 (length xs) u valid (omega arith) (omega arith) refl
+      (h .total ∙ ap (λ (i : ℕ). i + 32) (sym (h .closing))) (h .total ∙ sym lf) (h .others))
+      ∙ ap₂ (λ (i k : ℕ). indexRules 0 (ed .header) (takenIn f) i (entriesAt k i f)) (h .index) (h .kept)
+      ∙ ap (λ (t : ℕ). indexRules 0 (ed .header) t u (entriesAt (pictures xs) u f)) (h .taken)
+      ∙ ap (indexRules 0 (ed .header) (length xs) u) (entries-read f (p .key) (length xs) u few (let c = bound in omega arith) xs 1 (ed .header) u cl valid (omega arith) refl indexed)
+      ∙ sound-entries xs 1 (ed .header) 0 (length xs) u valid (omega arith) (omega arith) refl
 
-  closing-opens : (agrees (p .key) f (closingPart f) ≡ true) × (secretIn (p .key) f (closingPart f) ≡ p .identity .siteMark)
-  unfolding agrees secretIn closingSeal
+  closing-opens : (agrees (p .key) f (closingPart f) ≡ true) × (markIn (p .key) f (closingPart f) ≡ p .identity .siteMark)
+  unfolding agrees markIn closingSeal
   closing-opens =
-      let q = sizes Icepole128 in
       let k = p .key in
-      let e₁ : take 32 f ++ take (12 * keptIn f) (drop (indexOffsetIn f) f) ≡ hd ++ ix =
-      ap₂ (λ (a : Bytes) (n : ℕ). a ++ take (12 * n) (drop (indexOffsetIn f) f)) (headed .header) (headed .kept)
+      let n = p .identity .name in
+      let m = p .identity .siteMark in
+      let e₁ : take (rowOf f .header) f ++ take (12 * keptIn f) (drop (indexOffsetIn f) f) ≡ hd ++ ix =
+      ap₂ (λ (a : Bytes) (n : ℕ). a ++ take (12 * n) (drop (indexOffsetIn f) f)) (ap (λ (x : Edition). take (x .header) f) row ∙ headed .header) (headed .kept)
       ∙ ap (λ (i : ℕ). hd ++ take (12 * pictures xs) (drop i f)) (headed .index) ∙ ap (λ (a : Bytes). hd ++ a) indexed-bytes in
       let e₂ : take (0 + 32) (drop (indexOffsetIn f + 12 * keptIn f) f) ≡ cl =
       ap₂ (λ (i n : ℕ). take (0 + 32) (drop (i + 12 * n) f)) (headed .index) (headed .kept)
       ∙ ap (take (0 + 32)) (closed-at ∙ sym (append-nil cl)) ∙ take-at cl [] (0 + 32) length-cl in (
-        ap₂ (λ (b : ℕ) (c : Bytes). tagAgrees q k (nonceOf b 0) (take 32 f ++ take (12 * keptIn f) (drop (indexOffsetIn f) f)) c) (headed .burst) e₂
-            ∙ ap (λ (a : Bytes). tagAgrees q k (nonceOf (p .identity .burstNumber) 0) a cl) e₁
-            ∙ agrees128 k (nonceOf (p .identity .burstNumber) 0) (p .identity .siteMark) (hd ++ ix) [] site16,
-        ap₂ (λ (b : ℕ) (c : Bytes). secretOf q k (nonceOf b 0) c) (headed .burst) e₂
-            ∙ secret128 k (nonceOf (p .identity .burstNumber) 0) (p .identity .siteMark) (hd ++ ix) [] site16,
+        ap₂ (λ (x : Edition) (y : Name). partAgrees x k y 0 (take (rowOf f .header) f ++ take (12 * keptIn f) (drop (indexOffsetIn f) f)) (take (0 + 32) (drop (indexOffsetIn f + 12 * keptIn f) f))) row (headed .named)
+            ∙ ap₂ (partAgrees ed k n 0) e₁ e₂
+            ∙ part-agrees ed k n 0 m (hd ++ ix) [] site16,
+        ap₂ (λ (x : Edition) (y : Name). partMark x k y 0 (take (rowOf f .header) f ++ take (12 * keptIn f) (drop (indexOffsetIn f) f)) (take (0 + 32) (drop (indexOffsetIn f + 12 * keptIn f) f))) row (headed .named)
+            ∙ ap₂ (partMark ed k n 0) e₁ e₂
+            ∙ part-mark ed k n 0 m (hd ++ ix) [] site16,
       )
 
   records-open : firstDiffering (p .key) f (recordParts (keptIn f) (indexOffsetIn f) f) ≡ none
   records-open =
       ap₂ (λ (k i : ℕ). firstDiffering (p .key) f (recordParts k i f)) (headed .kept) (headed .index)
-      ∙ records-agree f (p .key) (length xs) u most (let c = bound in omega arith) xs 1 32 u cl (ix ++ cl) valid (omega arith) refl indexed recorded
+      ∙ records-agree f (p .key) (length xs) u few (let c = bound in omega arith) xs 1 (ed .header) u cl (ix ++ cl) valid (omega arith) refl indexed recorded
 
   accepted : checkNumber (p .key) f ≡ 0
   accepted = check-zero (p .key) f key16 front-holds (closing-opens .0) records-open
 
-  checked : checkAnswer (p .key) f ≡ record { refusal = 0; mark = 0; «burst_number» = p .identity .burstNumber; «site_mark» = p .identity .siteMark; taken = length xs; kept = pictures xs; dropped = gaps xs }
+  checked : checkAnswer (p .key) f ≡ record { refusal = 0; mark = 0; «burst_number» = p .identity .name .burst; «site_mark» = p .identity .siteMark; taken = length xs; kept = pictures xs; dropped = gaps xs }
   checked =
-      sym (check-0 (p .key) f key16 front-holds (closing-opens .0) records-open (headerIn f) refl (secretIn (p .key) f (closingPart f)) refl)
-      ∙ cc (headed .burst, headed .taken, headed .kept, headed .dropped, closing-opens .1)
+      sym (check-0 (p .key) f key16 front-holds (closing-opens .0) records-open (headerIn f) refl (markIn (p .key) f (closingPart f)) refl)
+      ∙ cc (ap (λ (n : Name). n .burst) (headed .named), headed .taken, headed .kept, headed .dropped, closing-opens .1)
 
   -- ---- a place
-  place-at : (place : ℕ) (w : Picture) → pictureAt 1 32 xs place ≡ some w → Placed f (p .key) (length xs) u most (let c = bound in omega arith) (positionOf f place) w
+  place-at : (place : ℕ) (w : Picture) → pictureAt 1 (ed .header) xs place ≡ some w → Placed f (p .key) (length xs) u few (let c = bound in omega arith) (positionOf f place) w
   place-at place w h =
-      subst (λ (i : ℕ). Placed f (p .key) (length xs) u most (let c = bound in omega arith) (i + 12 * place) w) (sym (headed .index))
-      (placed f (p .key) (length xs) u most (let c = bound in omega arith) xs 1 32 u place cl (ix ++ cl) w valid (omega arith) refl indexed recorded h)
+      subst (λ (i : ℕ). Placed f (p .key) (length xs) u few (let c = bound in omega arith) (i + 12 * place) w) (sym (headed .index))
+      (placed f (p .key) (length xs) u few (let c = bound in omega arith) xs 1 (ed .header) u place cl (ix ++ cl) w valid (omega arith) refl indexed recorded h)
 
   found-at : (place : ℕ) → place < pictures xs → Found (p .key) f place
   found-at place h = found (p .key) f place (record-zero (p .key) f place accepted (let k = headed .kept in omega arith))
 
-  fetched : (place : ℕ) (out : Bytes) (w : Picture) → pictureAt 1 32 xs place ≡ some w → length (w .picture) ≤ length out
+  fetched : (place : ℕ) (out : Bytes) (w : Picture) → pictureAt 1 (ed .header) xs place ≡ some w → length (w .picture) ≤ length out
       → (fetchAnswer (p .key) f place out ≡ record { refusal = 0; mark = 0; shot = record { 0 = w .shot }; stamp = w .stamp; length = length (w .picture) })
       × (fetchOutput (p .key) f place out ≡ putBytes out 0 (w .picture))
   fetched place out w h g =
       let y = place-at place w h in
       let e = y .entry in
       let n : entryAt f (positionOf f place) .length ≡ length (w .picture) = ap (λ (x : Entry). x .length) e in
-      let r = fetch-0 (p .key) f place out (found-at place (below xs 1 32 place w h)) (omega arith) in (
+      let r = fetch-0 (p .key) f place out (found-at place (below xs 1 (ed .header) place w h)) (omega arith) in (
         sym (r .0)
-            ∙ ap₂ (λ (x : Entry) (s : Bytes). let a : Fetched = record { refusal = 0; mark = 0; shot = x .shot; stamp = s; length = x .length } in a) e (y .opens .secret),
-        sym (r .1) ∙ ap (putBytes out 0) (y .opens .message),
+            ∙ ap₂ (λ (x : Entry) (s : Bytes). let a : Fetched = record { refusal = 0; mark = 0; shot = x .shot; stamp = s; length = x .length } in a) e (y .opens .mark),
+        sym (r .1) ∙ ap (putBytes out 0) (y .opens .body),
       )
 
-  sealed-record : (place : ℕ) (w : Picture) → pictureAt 1 32 xs place ≡ some w
+  sealed-record : (place : ℕ) (w : Picture) → pictureAt 1 (ed .header) xs place ≡ some w
       → (recordNumber (p .key) f place ≡ 0)
       × (recordOffset (p .key) f place ≡ w .offset)
-      × (recordBytesIn (p .key) f place ≡ recordBytes (p .key) (p .identity .burstNumber) (w .shot) (w .offset) (w .stamp) (w .picture))
+      × (recordBytesIn (p .key) f place ≡ recordBytes ed (p .key) (p .identity .name) (w .shot) (w .offset) (w .stamp) (w .picture))
   sealed-record place w h =
       let y = place-at place w h in
-      let b = below xs 1 32 place w h in
+      let b = below xs 1 (ed .header) place w h in
       let z = record-zero (p .key) f place accepted (let k = headed .kept in omega arith) in
       let r = record-done (p .key) f place z in (
         z,
         sym (r .1) ∙ ap (λ (x : Entry). x .offset) (y .entry),
-        sym (r .0) ∙ y .opens .sealed ∙ ap (λ (n : ℕ). recordBytes (p .key) n (w .shot) (w .offset) (w .stamp) (w .picture)) (headed .burst),
+        sym (r .0) ∙ y .opens .sealed ∙ ap₂ (λ (x : Edition) (n : Name). recordBytes x (p .key) n (w .shot) (w .offset) (w .stamp) (w .picture)) row (headed .named),
       )
 
   -- behind the last place nothing is given
@@ -256,62 +266,78 @@ picture-most (kept s p ∷ xs) n at zero w v h =
 picture-most (kept s p ∷ xs) n at (suc place) w v h = picture-most xs (n + 1) (at + length p + 32) place w (v .1) h
 picture-most (gap ∷ xs) n at place w v h = picture-most xs (n + 1) at place w v h
 
-module _ (p : Plain) (valid : Valid (p .shots)) (most : length (p .shots) ≤ 60) (key16 : length (p .key) ≡ 16) (site16 : length (p .identity .siteMark) ≡ 16)
-    (fits : p .identity .burstNumber < 18446744073709551616) where
-  all-given : Gives (p .key) (fileOf edition1 p) (p .shots) 1 32 0
+module _ (ed : Edition) (known-ed : Known ed) (p : Plain) (valid : Valid (p .shots)) (most : length (p .shots) ≤ ed .shots) (key16 : length (p .key) ≡ 16) (site16 : length (p .identity .siteMark) ≡ 16)
+    (fits : Fits ed (p .identity .name)) where
+  all-given : Gives (p .key) (fileOf ed p) (p .shots) 1 (ed .header) 0
   all-given =
       let z : (j : ℕ) → 0 + j ≡ j = λ j. omega arith in
       let l = length-whole in
       record {
-        answers = λ j w h. let g = picture-most (p .shots) 1 32 j w valid h in
-            ap (λ (i : ℕ). fetchAnswer (p .key) (fileOf edition1 p) i whole) (z j) ∙ fetched p valid most key16 site16 fits j whole w h (omega arith) .0;
-        outputs = λ j w h. let g = picture-most (p .shots) 1 32 j w valid h in
-            ap (λ (i : ℕ). fetchOutput (p .key) (fileOf edition1 p) i whole) (z j) ∙ fetched p valid most key16 site16 fits j whole w h (omega arith) .1;
-        ends = λ j h e. no-more p valid most key16 site16 fits j whole h (ap (λ (i : ℕ). fetchAnswer (p .key) (fileOf edition1 p) i whole .refusal) (sym (z j)) ∙ e);
+        answers = λ j w h. let g = picture-most (p .shots) 1 (ed .header) j w valid h in
+            ap (λ (i : ℕ). fetchAnswer (p .key) (fileOf ed p) i whole) (z j) ∙ fetched ed known-ed p valid most key16 site16 fits j whole w h (omega arith) .0;
+        outputs = λ j w h. let g = picture-most (p .shots) 1 (ed .header) j w valid h in
+            ap (λ (i : ℕ). fetchOutput (p .key) (fileOf ed p) i whole) (z j) ∙ fetched ed known-ed p valid most key16 site16 fits j whole w h (omega arith) .1;
+        ends = λ j h e. no-more ed known-ed p valid most key16 site16 fits j whole h (ap (λ (i : ℕ). fetchAnswer (p .key) (fileOf ed p) i whole .refusal) (sym (z j)) ∙ e);
       }
 
-  all-read : readShots (p .key) (fileOf edition1 p) ≡ p .shots
+  all-read : readShots (p .key) (fileOf ed p) ≡ p .shots
   unfolding readShots
   all-read =
-      ap (λ (c : Checked). readFrom (p .key) (fileOf edition1 p) (c .taken) 1 0) (checked p valid most key16 site16 fits)
-      ∙ read (p .key) (fileOf edition1 p) (p .shots) 1 32 0 valid all-given
+      ap (λ (c : Checked). readFrom (p .key) (fileOf ed p) (c .taken) 1 0) (checked ed known-ed p valid most key16 site16 fits)
+      ∙ read (p .key) (fileOf ed p) (p .shots) 1 (ed .header) 0 valid all-given
 
-  pub given-back : GivenBack (p .key) (fileOf edition1 p) p
+  pub given-back : GivenBack ed (p .key) (fileOf ed p) p
   given-back = record {
-    checked = checked p valid most key16 site16 fits;
+    checked = checked ed known-ed p valid most key16 site16 fits;
     counts = pictures-gaps (p .shots);
-    every = λ place h. every (p .shots) 1 32 place h;
-    fetched = fetched p valid most key16 site16 fits;
-    sealed = sealed-record p valid most key16 site16 fits;
+    every = λ place h. every (p .shots) 1 (ed .header) place h;
+    fetched = fetched ed known-ed p valid most key16 site16 fits;
+    sealed = sealed-record ed known-ed p valid most key16 site16 fits;
     shots = all-read;
   }
 
+-- the plain burst of a list has the list's name
+fits : (e : Edition) (l : CallList) → Filed e l → Fits e (plainOf e l .identity .name)
+fits e l w = subst (λ (i : Identity). Fits e (i .name)) (sym (fine e l (w .reached) .identity)) (w .named)
+
 pub gives-back : GivesBack
-gives-back l t r =
-    let g = fine l r in
-    let n : plainOf edition1 l .identity .burstNumber < 18446744073709551616 =
-    let e = ap (λ (i : Identity). i .burstNumber) (g .identity) in omega (arith, t, e) in
-    subst (λ (k : Bytes). GivenBack k (fileOf edition1 (plainOf edition1 l)) (plainOf edition1 l)) (g .key)
-    (given-back (plainOf edition1 l) (g .valid) (g .most) (g .key16) (g .site16) n)
+gives-back e l w =
+    let g = fine e l (w .reached) in
+    subst (λ (k : Bytes). GivenBack e k (fileOf e (plainOf e l)) (plainOf e l)) (g .key)
+    (given-back e (known e (w .listed)) (plainOf e l) (g .valid) (g .most) (g .key16) (g .site16) (fits e l w))
 
 -- the front of the buffer that a list leaves is that file
 pub on-card : OnCard
-on-card l b e t r =
-    subst (λ (f : Bytes). GivenBack (l .key) f (plainOf edition1 l)) (sym (agreement l b e .file r)) (gives-back l t r)
+on-card l b e n r =
+    subst (λ (f : Bytes). GivenBack (editionFor l) (l .key) f (plainOf (editionFor l) l)) (sym (agreement l b e .file r))
+    (gives-back (editionFor l) l (record { listed = written-among _; named = n; reached = r }))
 
--- ---- no file belongs to two bursts: both are what is read
-pub one-burst : OneBurst
-one-burst l l′ t t′ r r′ k e =
-    let g = gives-back l t r in
-    let g′ : GivenBack (l .key) (fileOf edition1 (plainOf edition1 l)) (plainOf edition1 l′) =
-    subst (λ (x : Bytes). GivenBack x (fileOf edition1 (plainOf edition1 l)) (plainOf edition1 l′)) (sym k)
-    (subst (λ (x : Bytes). GivenBack (l′ .key) x (plainOf edition1 l′)) (sym e) (gives-back l′ t′ r′)) in
+-- ---- no file belongs to two bursts: its number tells the edition, and both bursts are what is read
+pub file-row : (e : Edition) (l : CallList) → Filed e l → rowOf (fileOf e (plainOf e l)) ≡ e
+file-row e l w =
+    let g = fine e l (w .reached) in
+    row e (known e (w .listed)) (plainOf e l) (g .valid) (g .most) (g .key16) (g .site16) (fits e l w)
+
+-- what check and fetch give back tells the burst
+same-burst : (e : Edition) (key f : Bytes) (p p′ : Plain) → GivenBack e key f p → GivenBack e key f p′ → SameBurst p p′
+same-burst e key f p p′ g g′ =
     let c = sym (g .checked) ∙ g′ .checked in
     record {
-      burstNumber = ap (λ (x : Checked). x .«burst_number») c;
+      name = ap (λ (x : Checked). let n : Name = record { burst = x .«burst_number» } in n) c;
       siteMark = ap (λ (x : Checked). x .«site_mark») c;
       shots = sym (g .shots) ∙ g′ .shots;
     }
+
+pub one-burst : OneBurst
+one-burst e e′ l l′ w w′ k q =
+    let s : e ≡ e′ = sym (file-row e l w) ∙ ap rowOf q ∙ file-row e′ l′ w′ in
+    let p = plainOf e l in
+    let p′ = plainOf e′ l′ in
+    let g′ : GivenBack e (l .key) (fileOf e p) p′ =
+    subst (λ (x : Edition). GivenBack x (l .key) (fileOf e p) p′) (sym s)
+    (subst (λ (x : Bytes). GivenBack e′ x (fileOf e p) p′) (sym k)
+    (subst (λ (x : Bytes). GivenBack e′ (l′ .key) x p′) (sym q) (gives-back e′ l′ w′))) in
+    (s, same-burst e (l .key) (fileOf e p) p p′ (gives-back e l w) g′)
 
 -- ---- what is refused is withheld
 module _ (key f : Bytes) (place : ℕ) (out : Bytes) where

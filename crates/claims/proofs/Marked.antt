@@ -5,12 +5,14 @@ use Rattle.bits.specs.Bits.{bit, number}
 use Rattle.permutation.specs.Permutation.{μ, rotl}
 use Rattle.state_bytes.specs.StateBytes.{stateOf}
 use Rattle.icepole.specs.Answers.{sealNumber, openNumber}
-use Rattle.burst.specs.Layout.{headerBytes, nonceOf, entryBytes}
+use Rattle.burst.specs.Editions.{numbered, written}
+use Rattle.burst.specs.Parts.{nonceOf}
+use Rattle.burst.specs.Layout.{headerRest, headerBytes, entryBytes}
 use Rattle.burst.specs.Numbers.{beginNumber, keepNumber, dropNumber, closeNumber}
 use Rattle.burst.specs.Plain.{totalOf, headerOf, indexOf, numberOf, accepted, valueOf, afterCall, answerOf, begun, plainOf, plainAnswers}
 use Rattle.bytes_le.specs.Bytes.{leAt}
 use Rattle.burst.specs.Index.{entryRules, indexRules}
-use Rattle.reader.specs.Front.{entriesAt, frontRules}
+use Rattle.reader.specs.Front.{entriesAt, restRules, frontRulesOf, frontRules}
 use Rattle.reader.specs.Reader.{checkNumber}
 use Rattle.strips.specs.Answers.{stripNumber, endNumber}
 use Rattle.listing.specs.Text.{decimal}
@@ -18,5 +20,5 @@ use Rattle.listing.specs.Listing.{frontLines, headLines, listing, shotLine, sho
 use Rattle.claims.specs.Marked.{MarkedHold}
 
 pub marked-hold : MarkedHold
-unfolding bit number μ rotl stateOf sealNumber openNumber headerBytes nonceOf entryBytes beginNumber keepNumber dropNumber closeNumber totalOf headerOf indexOf numberOf accepted valueOf afterCall answerOf begun plainOf plainAnswers leAt entryRules indexRules entriesAt frontRules checkNumber stripNumber endNumber decimal frontLines headLines listing shotLine shotLines
+unfolding numbered written headerRest restRules frontRulesOf bit number μ rotl stateOf sealNumber openNumber headerBytes nonceOf entryBytes beginNumber keepNumber dropNumber closeNumber totalOf headerOf indexOf numberOf accepted valueOf afterCall answerOf begun plainOf plainAnswers leAt entryRules indexRules entriesAt frontRules checkNumber stripNumber endNumber decimal frontLines headLines listing shotLine shotLines
 marked-hold = refl

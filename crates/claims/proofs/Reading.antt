@@ -1,26 +1,27 @@
 -- The file of a plain burst, read: header, index and records stand where the reader looks for them, and every seal opens to what was sealed.
 -- Assumes nothing.
-use mathlib.Core.Bool.{Bool, true, false}
-use mathlib.Core.List.{List, [], _∷_, _++_, append-assoc, append-nil}
-use mathlib.Core.Option.{Option, some, none, Option·some-injective}
+use mathlib.Core.Bool.{true}
+use mathlib.Core.List.{List, [], _∷_, _++_, append-assoc}
+use mathlib.Core.Option.{some, none, Option·some-injective}
 use mathlib.Core.Path.{_≡_, refl, sym, ap, ap₂, subst, _∙_}
-use Prim.Native.Nat.{ℕ, zero, suc, _+_, _-_, _*_, _≤_, _<_}
+use Prim.Native.Nat.{ℕ, zero, suc, _+_, _-_, _*_, _^_, _≤_, _<_}
 use native.Mathlib.Omega.{arith}
-use lib.ListN.{length, take, drop, length-append}
+use lib.ListN.{length, take, drop, replicate}
 use lib.Seq.{take-at, drop-at, drop-drop}
-use Rattle.bytes_le.specs.Bytes.{Bytes, le, unle, leAt}
+use Rattle.bytes_le.specs.Bytes.{Bytes, unle, leAt}
 use Rattle.bytes_le.proofs.Laws.{unle-2, unle-4, unle-8}
-use Rattle.icepole.specs.declared.Variant.the-variants.{Icepole128}
-use Rattle.icepole.specs.Variants.{sizes}
-use Rattle.icepole.specs.Sealing.{sealed, secretOf, messageOf}
-use Rattle.icepole.specs.Answers.{tagAgrees}
 use Rattle.burst.specs.declared.Entry.{Entry}
-use Rattle.burst.specs.Layout.{edition1, Identity, nonceOf, entryBytes, headerBytes, recordBytes, closingSeal}
+use Rattle.burst.specs.declared.Edition.{Edition}
+use Rattle.burst.specs.declared.Name.{Name}
+use Rattle.burst.specs.Editions.{fieldsLength, maxEntries, Known}
+use Rattle.burst.specs.Parts.{Fits, partAgrees, partMark, partBody}
+use Rattle.burst.specs.Layout.{headerRest, entryBytes, headerBytes, recordBytes}
 use Rattle.burst.specs.Index.{entryOf}
-use Rattle.burst.specs.Plain.{Shot, kept, gap, pictures, gaps, usedBy, records, index}
-use Rattle.burst.proofs.Sealer.{agrees128, secret128, message128}
-use Rattle.reader.specs.Front.{editionIn, takenIn, keptIn, droppedIn, burstNumberIn, pictureOffsetIn, indexOffsetIn, closingOffsetIn, totalIn, entryAt, entriesAt}
-use Rattle.reader.specs.Reader.{Part, recordPart, recordParts, agrees, secretIn, messageIn, sealedIn, firstDiffering}
+use Rattle.burst.specs.Plain.{Shot, kept, gap, pictures, usedBy, records, index}
+use Rattle.burst.proofs.Puts.{length-header}
+use Rattle.burst.proofs.Parts.{part-agrees, part-mark, part-body}
+use Rattle.reader.specs.Front.{rowOf, nameIn, allZero, restRules, editionIn, takenIn, keptIn, droppedIn, pictureOffsetIn, indexOffsetIn, closingOffsetIn, totalIn, entryAt, entriesAt}
+use Rattle.reader.specs.Reader.{Part, recordPart, recordParts, agrees, markIn, bodyIn, sealedIn, firstDiffering}
 use Rattle.reader.proofs.Parts.{parts-end, parts-next}
 use Rattle.reader.proofs.Fields.{entry-same}
 use Rattle.trace.proofs.Shots.{Valid, entries, used-least, length-record}
@@ -32,7 +33,7 @@ pub record EntryIn (f rest : Bytes) (pos n at len : ℕ) : Type 0 where
   pub bytes : take 12 (drop pos f) ≡ entryBytes n 0 at len
   pub next : drop (pos + 12) f ≡ rest
 
-pub entry-in : (f rest : Bytes) (pos n at len : ℕ) → n < 65536 → at < 4294967296 → len < 4294967296 → drop pos f ≡ entryBytes n 0 at len ++ rest → EntryIn f rest pos n at len
+pub entry-in : (f rest : Bytes) (pos n at len : ℕ) → n < 2 ^ 16 → at < 2 ^ 32 → len < 2 ^ 32 → drop pos f ≡ entryBytes n 0 at len ++ rest → EntryIn f rest pos n at len
 unfolding leAt entryBytes
 entry-in f rest pos n at len hn ha hl e = record {
   is = entry-same
@@ -44,7 +45,7 @@ entry-in f rest pos n at len hn ha hl e = record {
   next = sym (drop-drop 12 pos f) ∙ ap (drop 12) e;
 }
 
-module _ (f key : Bytes) (taken end : ℕ) (ht : taken ≤ 60) (he : end < 4294967296) where
+module _ (f key : Bytes) (taken end : ℕ) (ht : taken ≤ maxEntries) (he : end < 2 ^ 32) where
   -- the first entry of an index that starts with a kept shot
   first-entry : (s p : Bytes) (xs : List Shot) (n at pos : ℕ) (rest : Bytes) → Valid (kept s p ∷ xs) → n + length (kept s p ∷ xs) ≤ taken + 1 → end ≡ usedBy at (kept s p ∷ xs)
       → drop pos f ≡ index n at (kept s p ∷ xs) ++ rest → EntryIn f (index (n + 1) (at + length p + 32) xs ++ rest) pos n at (length p)
@@ -73,52 +74,52 @@ module _ (f key : Bytes) (taken end : ℕ) (ht : taken ≤ 60) (he : end < 42949
 
   pub record OpensTo (pos : ℕ) (s p c : Bytes) : Type 0 where
     pub agrees : agrees key f (recordPart f pos) ≡ true
-    pub secret : secretIn key f (recordPart f pos) ≡ s
-    pub message : messageIn key f (recordPart f pos) ≡ p
+    pub mark : markIn key f (recordPart f pos) ≡ s
+    pub body : bodyIn key f (recordPart f pos) ≡ p
     pub sealed : sealedIn key f (recordPart f pos) ≡ c
 
-  opens-part : (n at : ℕ) (s p rest : Bytes) → length s ≡ 16 → drop at f ≡ recordBytes key (burstNumberIn f) n at s p ++ rest
-      → (agrees key f (part n at (length p)) ≡ true) × (secretIn key f (part n at (length p)) ≡ s) × (messageIn key f (part n at (length p)) ≡ p)
-      × (sealedIn key f (part n at (length p)) ≡ recordBytes key (burstNumberIn f) n at s p)
-  unfolding agrees secretIn messageIn recordBytes
+  opens-part : (n at : ℕ) (s p rest : Bytes) → length s ≡ 16 → drop at f ≡ recordBytes (rowOf f) key (nameIn f) n at s p ++ rest
+      → (agrees key f (part n at (length p)) ≡ true) × (markIn key f (part n at (length p)) ≡ s) × (bodyIn key f (part n at (length p)) ≡ p)
+      × (sealedIn key f (part n at (length p)) ≡ recordBytes (rowOf f) key (nameIn f) n at s p)
+  unfolding agrees markIn bodyIn recordBytes
   opens-part n at s p rest hs d =
-      let q = sizes Icepole128 in
-      let nc = nonceOf (burstNumberIn f) n in
+      let e = rowOf f in
+      let name = nameIn f in
       let ad = entryBytes n 0 at (length p) in
-      let t : take (length p + 32) (drop at f) ≡ recordBytes key (burstNumberIn f) n at s p =
-      ap (take (length p + 32)) d ∙ take-at _ rest (length p + 32) (length-record key (burstNumberIn f) n at s p hs) in (
-        ap (tagAgrees q key nc ad) t ∙ agrees128 key nc s ad p hs,
-        ap (secretOf q key nc) t ∙ secret128 key nc s ad p hs,
-        ap (messageOf q key nc ad) t ∙ message128 key nc s ad p hs,
+      let t : take (length p + 32) (drop at f) ≡ recordBytes e key name n at s p =
+      ap (take (length p + 32)) d ∙ take-at _ rest (length p + 32) (length-record e key name n at s p hs) in (
+        ap (partAgrees e key name n ad) t ∙ part-agrees e key name n s ad p hs,
+        ap (partMark e key name n ad) t ∙ part-mark e key name n s ad p hs,
+        ap (partBody e key name n ad) t ∙ part-body e key name n s ad p hs,
         t,
       )
 
-  opens-to : (n at pos : ℕ) (s p rest rest₂ : Bytes) → EntryIn f rest pos n at (length p) → length s ≡ 16 → drop at f ≡ recordBytes key (burstNumberIn f) n at s p ++ rest₂
-      → OpensTo pos s p (recordBytes key (burstNumberIn f) n at s p)
+  opens-to : (n at pos : ℕ) (s p rest rest₂ : Bytes) → EntryIn f rest pos n at (length p) → length s ≡ 16 → drop at f ≡ recordBytes (rowOf f) key (nameIn f) n at s p ++ rest₂
+      → OpensTo pos s p (recordBytes (rowOf f) key (nameIn f) n at s p)
   opens-to n at pos s p rest rest₂ w hs d =
       let o = opens-part n at s p rest₂ hs d in
       let e = part-is rest pos n at (length p) w in
       record {
         agrees = ap (agrees key f) e ∙ o .0;
-        secret = ap (secretIn key f) e ∙ o .1;
-        message = ap (messageIn key f) e ∙ o .2;
+        mark = ap (markIn key f) e ∙ o .1;
+        body = ap (bodyIn key f) e ∙ o .2;
         sealed = ap (sealedIn key f) e ∙ o .3;
       }
 
   -- the record of a first kept shot, and the records behind it
-  first-record : (s p : Bytes) (xs : List Shot) (n at : ℕ) (rest : Bytes) → length s ≡ 16 → drop at f ≡ records key (burstNumberIn f) n at (kept s p ∷ xs) ++ rest
-      → (drop at f ≡ recordBytes key (burstNumberIn f) n at s p ++ (records key (burstNumberIn f) (n + 1) (at + length p + 32) xs ++ rest))
-      × (drop (at + length p + 32) f ≡ records key (burstNumberIn f) (n + 1) (at + length p + 32) xs ++ rest)
+  first-record : (s p : Bytes) (xs : List Shot) (n at : ℕ) (rest : Bytes) → length s ≡ 16 → drop at f ≡ records (rowOf f) key (nameIn f) n at (kept s p ∷ xs) ++ rest
+      → (drop at f ≡ recordBytes (rowOf f) key (nameIn f) n at s p ++ (records (rowOf f) key (nameIn f) (n + 1) (at + length p + 32) xs ++ rest))
+      × (drop (at + length p + 32) f ≡ records (rowOf f) key (nameIn f) (n + 1) (at + length p + 32) xs ++ rest)
   first-record s p xs n at rest hs d =
-      let rb = recordBytes key (burstNumberIn f) n at s p in
-      let rs = records key (burstNumberIn f) (n + 1) (at + length p + 32) xs ++ rest in
+      let rb = recordBytes (rowOf f) key (nameIn f) n at s p in
+      let rs = records (rowOf f) key (nameIn f) (n + 1) (at + length p + 32) xs ++ rest in
       let d₃ : drop at f ≡ rb ++ rs = d ∙ append-assoc rb _ rest in
-      let l : length rb ≡ length p + 32 = length-record key (burstNumberIn f) n at s p hs in
+      let l : length rb ≡ length p + 32 = length-record (rowOf f) key (nameIn f) n at s p hs in
       let q : at + length rb ≡ at + length p + 32 = omega arith in
       (d₃, ap (λ (k : ℕ). drop k f) (sym q) ∙ sym (drop-drop (length rb) at f) ∙ ap (drop (length rb)) d₃ ∙ drop-at rb rs (length rb) refl)
 
   pub records-agree : (xs : List Shot) (n at pos : ℕ) (rest rest₂ : Bytes) → Valid xs → n + length xs ≤ taken + 1 → end ≡ usedBy at xs
-      → drop pos f ≡ index n at xs ++ rest → drop at f ≡ records key (burstNumberIn f) n at xs ++ rest₂ → firstDiffering key f (recordParts (pictures xs) pos f) ≡ none
+      → drop pos f ≡ index n at xs ++ rest → drop at f ≡ records (rowOf f) key (nameIn f) n at xs ++ rest₂ → firstDiffering key f (recordParts (pictures xs) pos f) ≡ none
   records-agree [] n at pos rest rest₂ v g e d d₂ = parts-end key f pos
   records-agree (kept s p ∷ xs) n at pos rest rest₂ v g e d d₂ =
       let w = first-entry s p xs n at pos rest v g e d in
@@ -130,10 +131,10 @@ module _ (f key : Bytes) (taken end : ℕ) (ht : taken ≤ 60) (he : end < 42949
   -- ---- the picture of a place
   pub record Placed (pos : ℕ) (w : Picture) : Type 0 where
     pub entry : entryAt f pos ≡ entryOf (w .shot) (w .offset) (length (w .picture))
-    pub opens : OpensTo pos (w .stamp) (w .picture) (recordBytes key (burstNumberIn f) (w .shot) (w .offset) (w .stamp) (w .picture))
+    pub opens : OpensTo pos (w .stamp) (w .picture) (recordBytes (rowOf f) key (nameIn f) (w .shot) (w .offset) (w .stamp) (w .picture))
 
   pub placed : (xs : List Shot) (n at pos place : ℕ) (rest rest₂ : Bytes) (w : Picture) → Valid xs → n + length xs ≤ taken + 1 → end ≡ usedBy at xs
-      → drop pos f ≡ index n at xs ++ rest → drop at f ≡ records key (burstNumberIn f) n at xs ++ rest₂ → pictureAt n at xs place ≡ some w → Placed (pos + 12 * place) w
+      → drop pos f ≡ index n at xs ++ rest → drop at f ≡ records (rowOf f) key (nameIn f) n at xs ++ rest₂ → pictureAt n at xs place ≡ some w → Placed (pos + 12 * place) w
   placed [] n at pos place rest rest₂ w v g e d d₂ h = let z : _≡_ {A = ℕ} 0 1 = cc in absurd (omega arith)
   placed (kept s p ∷ xs) n at pos zero rest rest₂ w v g e d d₂ h =
       let y = first-entry s p xs n at pos rest v g e d in
@@ -162,32 +163,43 @@ below (kept s p ∷ xs) n at (suc place) w h = let g = below xs (n + 1) (at + le
 below (gap ∷ xs) n at place w h = below xs (n + 1) at place w h
 
 -- ---- the header, where it stands
-pub record HeaderIn (f rest : Bytes) (t k d n u : ℕ) : Type 0 where
-  pub edition : editionIn f ≡ 1
-  pub taken : takenIn f ≡ t
-  pub kept : keptIn f ≡ k
-  pub dropped : droppedIn f ≡ d
-  pub burst : burstNumberIn f ≡ n
-  pub pictures : pictureOffsetIn f ≡ 32
-  pub index : indexOffsetIn f ≡ u
-  pub closing : closingOffsetIn f ≡ u + 12 * k
-  pub total : totalIn f ≡ u + 12 * k + 32
-  pub header : take 32 f ≡ headerBytes edition1 t k d n u
-  pub next : drop 32 f ≡ rest
+all-zero : (n : ℕ) → allZero (replicate n 0) ≡ true
+all-zero zero = refl
+all-zero (suc n) = all-zero n
 
-pub header-in : (f rest : Bytes) (t k d n u : ℕ) → t < 65536 → k < 65536 → d < 65536 → n < 18446744073709551616 → u + 12 * k + 32 < 4294967296
-    → f ≡ headerBytes edition1 t k d n u ++ rest → HeaderIn f rest t k d n u
-unfolding leAt headerBytes
-header-in f rest t k d n u ht hk hd hn hu e = record {
-  edition = ap (λ (l : Bytes). unle (take 2 l)) e;
-  taken = ap (λ (l : Bytes). unle (take 2 (drop 2 l))) e ∙ unle-2 t ht;
-  kept = ap (λ (l : Bytes). unle (take 2 (drop 4 l))) e ∙ unle-2 k hk;
-  dropped = ap (λ (l : Bytes). unle (take 2 (drop 6 l))) e ∙ unle-2 d hd;
-  burst = ap (λ (l : Bytes). unle (take 8 (drop 8 l))) e ∙ unle-8 n hn;
-  pictures = ap (λ (l : Bytes). unle (take 4 (drop 16 l))) e;
-  index = ap (λ (l : Bytes). unle (take 4 (drop 20 l))) e ∙ unle-4 u (omega arith);
-  closing = ap (λ (l : Bytes). unle (take 4 (drop 24 l))) e ∙ unle-4 (u + 12 * k) (omega arith);
-  total = ap (λ (l : Bytes). unle (take 4 (drop 28 l))) e ∙ unle-4 (u + 12 * k + 32) hu;
-  header = ap (take 32) e;
-  next = ap (drop 32) e;
-}
+module _ (e : Edition) (known : Known e) (name : Name) where
+  pub record HeaderIn (f rest : Bytes) (t k d u : ℕ) : Type 0 where
+    pub edition : editionIn f ≡ e .number
+    pub taken : takenIn f ≡ t
+    pub kept : keptIn f ≡ k
+    pub dropped : droppedIn f ≡ d
+    pub named : nameIn f ≡ name
+    pub pictures : pictureOffsetIn f ≡ e .header
+    pub index : indexOffsetIn f ≡ u
+    pub closing : closingOffsetIn f ≡ u + 12 * k
+    pub total : totalIn f ≡ u + 12 * k + 32
+    pub header : take (e .header) f ≡ headerBytes e name t k d u
+    pub others : restRules e f ≡ true
+    pub next : drop (e .header) f ≡ rest
+
+  pub header-in : (f rest : Bytes) (t k d u : ℕ) → t < 2 ^ 16 → k < 2 ^ 16 → d < 2 ^ 16 → Fits e name → u + 12 * k + 32 < 2 ^ 32
+      → f ≡ headerBytes e name t k d u ++ rest → HeaderIn f rest t k d u
+  unfolding leAt headerBytes headerRest restRules
+  header-in f rest t k d u ht hk hd hn hu q =
+      let g = known .header in
+      let l = length-header e known name t k d u in
+      let h : take (e .header) f ≡ headerBytes e name t k d u = ap (take (e .header)) q ∙ take-at (headerBytes e name t k d u) rest (e .header) l in
+      record {
+        edition = ap (λ (l : Bytes). unle (take 2 l)) q ∙ unle-2 (e .number) (known .number);
+        taken = ap (λ (l : Bytes). unle (take 2 (drop 2 l))) q ∙ unle-2 t ht;
+        kept = ap (λ (l : Bytes). unle (take 2 (drop 4 l))) q ∙ unle-2 k hk;
+        dropped = ap (λ (l : Bytes). unle (take 2 (drop 6 l))) q ∙ unle-2 d hd;
+        named = ap (λ (b : ℕ). let n : Name = record { burst = b } in n) (ap (λ (l : Bytes). unle (take 8 (drop 8 l))) q ∙ unle-8 (name .burst) hn);
+        pictures = ap (λ (l : Bytes). unle (take 4 (drop 16 l))) q ∙ unle-4 (e .header) (omega arith);
+        index = ap (λ (l : Bytes). unle (take 4 (drop 20 l))) q ∙ unle-4 u (omega arith);
+        closing = ap (λ (l : Bytes). unle (take 4 (drop 24 l))) q ∙ unle-4 (u + 12 * k) (omega arith);
+        total = ap (λ (l : Bytes). unle (take 4 (drop 28 l))) q ∙ unle-4 (u + 12 * k + 32) hu;
+        header = h;
+        others = ap (λ (l : Bytes). allZero (drop fieldsLength l)) h ∙ all-zero (e .header - fieldsLength);
+        next = ap (drop (e .header)) q ∙ drop-at (headerBytes e name t k d u) rest (e .header) l;
+      }

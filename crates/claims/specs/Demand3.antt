@@ -7,9 +7,9 @@
 --   on-card     so too from the front of the buffer that the list leaves
 --   reads       and of every accepted file, what was read back makes that file again
 --   withholds   otherwise it releases no picture byte
--- The cipher is ICEPOLE-128, as in the definitions of record and closing seal. Assumes nothing.
-use mathlib.Core.Bool.{Bool, true, false, _&&_}
-use mathlib.Core.List.{List, [], _∷_, _++_}
+-- A list is read as one of an edition, a row of `editions`; the row that the recorder makes of it is `editionFor`. The cipher is the one that `Parts` of the burst file chooses. Assumes nothing.
+use mathlib.Core.Bool.{true, _&&_}
+use mathlib.Core.List.{List, [], _∷_}
 use mathlib.Core.Logic.{_↔_, _⊎_}
 use mathlib.Core.Option.{Option, some, none}
 use mathlib.Core.Path.{_≡_}
@@ -18,13 +18,15 @@ use lib.Dec.{eqb}
 use lib.ListN.{length, take, replicate}
 use Rattle.bytes_le.specs.Bytes.{Bytes, AllBytes, putBytes}
 use Rattle.icepole.specs.Sealing.{pick}
-use Rattle.burst.specs.Layout.{edition1, maxPicture, Identity, recordBytes}
+use Rattle.burst.specs.declared.Edition.{Edition}
+use Rattle.burst.specs.Editions.{editions, _among_}
+use Rattle.burst.specs.Parts.{Fits}
+use Rattle.burst.specs.Layout.{maxPicture, recordBytes}
 use Rattle.burst.specs.Numbers.{usedAfter}
 use Rattle.burst.specs.Plain.{Shot, kept, gap, pictures, gaps, Plain, fileOf, Call, keepShot, dropShot, closeBurst, CallList, Answer, plainOf, plainAnswers, totalOf}
 use Rattle.trace.specs.Trace.{runBuffer}
-use Rattle.trace.specs.Agreement.{Reached, Agreement}
-use Rattle.reader.specs.declared.Checked.{Checked}
-use Rattle.reader.specs.declared.Fetched.{Fetched}
+use Rattle.trace.specs.Agreement.{Reached, editionFor, Agreement}
+use Rattle.reader.specs.Front.{rowOf}
 use Rattle.reader.specs.Reader.{notChecked, notFetched, checkAnswer, fetchAnswer, fetchOutput, recordNumber, recordOffset, recordBytesIn}
 
 -- ---- an accepted close: one of the list's closes was answered 0
@@ -40,21 +42,24 @@ rest [] = []
 rest (a ∷ answers) = answers
 
 abbrev pub Answered : Type 0
-Answered = (l : CallList) → Reached l ↔ CloseAnswered (l .calls) (rest (plainAnswers edition1 l))
+Answered = (e : Edition) (l : CallList) → Reached e l ↔ CloseAnswered (l .calls) (rest (plainAnswers e l))
 
 -- ---- no file belongs to two bursts under its key
 pub record SameBurst (p p′ : Plain) : Type 0 where
-  pub burstNumber : p .identity .burstNumber ≡ p′ .identity .burstNumber
+  pub name : p .identity .name ≡ p′ .identity .name
   pub siteMark : p .identity .siteMark ≡ p′ .identity .siteMark
   pub shots : p .shots ≡ p′ .shots
 
--- a burst number has eight bytes
-abbrev pub Numbered : CallList → Type 0
-Numbered l = l .identity .burstNumber < 2 ^ 64
+-- a list whose burst has a file as one of edition e: e is a row, the name's numbers fit, and there is an accepted close
+pub record Filed (e : Edition) (l : CallList) : Type 0 where
+  pub listed : e among editions
+  pub named : Fits e (l .identity .name)
+  pub reached : Reached e l
 
+-- whatever the editions
 abbrev pub OneBurst : Type 0
-OneBurst = (l l′ : CallList) → Numbered l → Numbered l′ → Reached l → Reached l′ → l .key ≡ l′ .key
-    → fileOf edition1 (plainOf edition1 l) ≡ fileOf edition1 (plainOf edition1 l′) → SameBurst (plainOf edition1 l) (plainOf edition1 l′)
+OneBurst = (e e′ : Edition) (l l′ : CallList) → Filed e l → Filed e′ l′ → l .key ≡ l′ .key → fileOf e (plainOf e l) ≡ fileOf e′ (plainOf e′ l′)
+    → (e ≡ e′) × SameBurst (plainOf e l) (plainOf e′ l′)
 
 -- ---- the reader accepts exactly the files of such lists
 -- what the types of the calls say of their arguments
@@ -66,21 +71,21 @@ TypedCalls (closeBurst ∷ cs) = TypedCalls cs
 
 pub record Typed (l : CallList) : Type 0 where
   pub key : AllBytes (l .key)
-  pub burstNumber : Numbered l
   pub siteMark : AllBytes (l .identity .siteMark)
   pub buffer : l .bufferLength < 2 ^ 63
   pub calls : TypedCalls (l .calls)
 
--- f is the file of some such list under the key
-pub record FileOf (key f : Bytes) : Type 0 where
+-- f is genuine under the key: the file of some such list with that key, as one of some row
+pub record Genuine (key f : Bytes) : Type 0 where
+  pub edition : Edition
   pub list : CallList
+  pub filed : Filed edition list
   pub typed : Typed list
   pub keyed : list .key ≡ key
-  pub reached : Reached list
-  pub file : fileOf edition1 (plainOf edition1 list) ≡ f
+  pub file : fileOf edition (plainOf edition list) ≡ f
 
 abbrev pub Accepts : Type 0
-Accepts = (key f : Bytes) → AllBytes key → AllBytes f → (checkAnswer key f .refusal ≡ 0) ↔ FileOf key f
+Accepts = (key f : Bytes) → AllBytes key → AllBytes f → (checkAnswer key f .refusal ≡ 0) ↔ Genuine key f
 
 -- ---- and gives back the list
 -- a kept picture: its shot number, stamp and picture, and where its record stands
@@ -113,11 +118,11 @@ module _ (key f : Bytes) where
   unfoldable pub readShots : List Shot
   readShots = readFrom (checkAnswer key f .taken) 1 0
 
-pub record GivenBack (key f : Bytes) (p : Plain) : Type 0 where
+pub record GivenBack (e : Edition) (key f : Bytes) (p : Plain) : Type 0 where
   pub checked : checkAnswer key f ≡ record {
     refusal = 0;
     mark = 0;
-    «burst_number» = p .identity .burstNumber;
+    «burst_number» = p .identity .name .burst;
     «site_mark» = p .identity .siteMark;
     taken = length (p .shots);
     kept = pictures (p .shots);
@@ -125,40 +130,40 @@ pub record GivenBack (key f : Bytes) (p : Plain) : Type 0 where
   }
   pub counts : length (p .shots) ≡ pictures (p .shots) + gaps (p .shots)
   -- at every place below kept, into an output that holds the picture
-  pub every : (place : ℕ) → place < pictures (p .shots) → (w : Picture) × (pictureAt 1 (edition1 .headerLength) (p .shots) place ≡ some w)
-  pub fetched : (place : ℕ) (out : Bytes) (w : Picture) → pictureAt 1 (edition1 .headerLength) (p .shots) place ≡ some w → length (w .picture) ≤ length out
+  pub every : (place : ℕ) → place < pictures (p .shots) → (w : Picture) × (pictureAt 1 (e .header) (p .shots) place ≡ some w)
+  pub fetched : (place : ℕ) (out : Bytes) (w : Picture) → pictureAt 1 (e .header) (p .shots) place ≡ some w → length (w .picture) ≤ length out
       → (fetchAnswer key f place out ≡ record { refusal = 0; mark = 0; shot = record { 0 = w .shot }; stamp = w .stamp; length = length (w .picture) })
       × (fetchOutput key f place out ≡ putBytes out 0 (w .picture))
   -- the sealed record, and where it stands
-  pub sealed : (place : ℕ) (w : Picture) → pictureAt 1 (edition1 .headerLength) (p .shots) place ≡ some w
+  pub sealed : (place : ℕ) (w : Picture) → pictureAt 1 (e .header) (p .shots) place ≡ some w
       → (recordNumber key f place ≡ 0)
       × (recordOffset key f place ≡ w .offset)
-      × (recordBytesIn key f place ≡ recordBytes key (p .identity .burstNumber) (w .shot) (w .offset) (w .stamp) (w .picture))
+      × (recordBytesIn key f place ≡ recordBytes e key (p .identity .name) (w .shot) (w .offset) (w .stamp) (w .picture))
   pub shots : readShots key f ≡ p .shots
 
 abbrev pub GivesBack : Type 0
-GivesBack = (l : CallList) → Numbered l → Reached l → GivenBack (l .key) (fileOf edition1 (plainOf edition1 l)) (plainOf edition1 l)
+GivesBack = (e : Edition) (l : CallList) → Filed e l → GivenBack e (l .key) (fileOf e (plainOf e l)) (plainOf e l)
 
 -- ---- of every accepted file
 abbrev pub burstIn : Bytes → Bytes → Plain
 burstIn key f = record {
   key = key;
-  identity = record { burstNumber = checkAnswer key f .«burst_number»; siteMark = checkAnswer key f .«site_mark» };
+  identity = record { name = record { burst = checkAnswer key f .«burst_number» }; siteMark = checkAnswer key f .«site_mark» };
   shots = readShots key f;
   closed = true;
 }
 
 pub record ReadBack (key f : Bytes) : Type 0 where
   pub counts : checkAnswer key f .taken ≡ checkAnswer key f .kept + checkAnswer key f .dropped
-  pub file : fileOf edition1 (burstIn key f) ≡ f
+  pub file : fileOf (rowOf f) (burstIn key f) ≡ f
 
 abbrev pub Reads : Type 0
 Reads = (key f : Bytes) → AllBytes key → AllBytes f → checkAnswer key f .refusal ≡ 0 → ReadBack key f
 
 -- ---- the same of the front of the buffer that a list leaves
 abbrev pub OnCard : Type 0
-OnCard = (l : CallList) (b : Bytes) → length b ≡ l .bufferLength → Numbered l → Reached l
-    → GivenBack (l .key) (take (totalOf edition1 (plainOf edition1 l)) (runBuffer l b)) (plainOf edition1 l)
+OnCard = (l : CallList) (b : Bytes) → length b ≡ l .bufferLength → Fits (editionFor l) (l .identity .name) → Reached (editionFor l) l
+    → GivenBack (editionFor l) (l .key) (take (totalOf (editionFor l) (plainOf (editionFor l) l)) (runBuffer l b)) (plainOf (editionFor l) l)
 
 -- ---- otherwise no picture byte is released
 pub record Withheld (key f : Bytes) (place : ℕ) (out : Bytes) : Type 0 where

@@ -14,7 +14,9 @@ use Rattle.icepole.specs.Sealing.{xorWith, pad}
 use Rattle.icepole.specs.declared.Variant.the-variants.{Icepole128}
 use Rattle.icepole.specs.Variants.{sizes}
 use Rattle.icepole.specs.Answers.{sealNumber, openNumber}
-use Rattle.burst.specs.Layout.{edition1, nonceOf, closingOffset}
+use Rattle.burst.specs.Editions.{edition1}
+use Rattle.burst.specs.Parts.{nonceOf}
+use Rattle.burst.specs.Layout.{closingOffset}
 use Rattle.burst.specs.Numbers.{beginNumber, keepNumber, dropNumber}
 use Rattle.burst.specs.Plain.{pictures, Plain, byValue, inPlace, keepShot, dropShot, closeBurst, CallList, Answer, usedOf, totalOf, headerOf, indexOf, plainOf, plainAnswers}
 use Rattle.reader.specs.Reader.{checkNumber}
@@ -38,7 +40,7 @@ xoredIn b frame = stateOf (xorWith (replicate 160 0) (pad b frame))
 abbrev pub list7 : CallList
 list7 = record {
   key = replicate 16 0;
-  identity = record { burstNumber = 7; siteMark = replicate 16 0 };
+  identity = record { name = record { burst = 7 }; siteMark = replicate 16 0 };
   bufferLength = 111;
   calls = dropShot byValue ∷ keepShot (replicate 16 0) (replicate 3 0) ∷ dropShot inPlace ∷ closeBurst ∷ [];
 }
@@ -50,7 +52,7 @@ burst7 = plainOf edition1 list7
 abbrev pub list60 : CallList
 list60 = record {
   key = replicate 16 0;
-  identity = record { burstNumber = 7; siteMark = replicate 16 0 };
+  identity = record { name = record { burst = 7 }; siteMark = replicate 16 0 };
   bufferLength = 64;
   calls = replicate 61 (dropShot byValue) ++ (closeBurst ∷ dropShot inPlace ∷ []);
 }
@@ -132,7 +134,7 @@ marked =
     ∷ (the (totalOf edition1 burst7) is the 111)
     ∷ (answers list7 is ((0 ∷ 0 ∷ 0 ∷ []) ∷ (0 ∷ 0 ∷ 1 ∷ []) ∷ (0 ∷ 0 ∷ 2 ∷ []) ∷ (0 ∷ 0 ∷ 3 ∷ []) ∷ (0 ∷ 0 ∷ 111 ∷ []) ∷ []))
     ∷ ((indexOf edition1 burst7 ∷ []) is ((0x02 ∷ 0x00 ∷ 0x00 ∷ 0x00 ∷ 0x20 ∷ 0x00 ∷ 0x00 ∷ 0x00 ∷ 0x03 ∷ 0x00 ∷ 0x00 ∷ 0x00 ∷ []) ∷ []))
-    ∷ ((nonceOf 7 2 ∷ []) is ((0x07 ∷ 0x00 ∷ 0x00 ∷ 0x00 ∷ 0x00 ∷ 0x00 ∷ 0x00 ∷ 0x00 ∷ 0x02 ∷ 0x00 ∷ 0x00 ∷ 0x00 ∷ 0x00 ∷ 0x00 ∷ 0x00 ∷ 0x00 ∷ []) ∷ []))
+    ∷ ((nonceOf edition1 (burst7 .identity .name) 2 ∷ []) is ((0x07 ∷ 0x00 ∷ 0x00 ∷ 0x00 ∷ 0x00 ∷ 0x00 ∷ 0x00 ∷ 0x00 ∷ 0x02 ∷ 0x00 ∷ 0x00 ∷ 0x00 ∷ 0x00 ∷ 0x00 ∷ 0x00 ∷ 0x00 ∷ []) ∷ []))
     ∷ (drop 60 (answers list60) is ((0 ∷ 0 ∷ 60 ∷ []) ∷ (9 ∷ 0 ∷ 0 ∷ []) ∷ (0 ∷ 0 ∷ 64 ∷ []) ∷ (8 ∷ 0 ∷ 0 ∷ []) ∷ []))
     ∷ ((refusals ∷ []) is ((1 ∷ 2 ∷ 3 ∷ 4 ∷ 5 ∷ 6 ∷ 7 ∷ 8 ∷ 9 ∷ 10 ∷ 11 ∷ 0 ∷ 11 ∷ 10 ∷ []) ∷ []))
     ∷ (the (checkNumber (replicate 16 0) (front7 61)) is the 12)

@@ -12,13 +12,13 @@ use lib.ListN.{length, length-append}
 use Rattle.bytes_le.specs.Bytes.{Bytes, putBytes}
 use Rattle.icepole.specs.Sealing.{pick}
 use Rattle.burst.specs.declared.Entry.{Entry}
-use Rattle.burst.specs.Layout.{edition1}
+use Rattle.burst.specs.Editions.{maxEntries}
 use Rattle.reader.specs.declared.Header.{Header}
 use Rattle.reader.specs.Front.{burstNumberIn, droppedIn, entriesAt, entryAt, frontRules, headerIn, indexOffsetIn, keptIn, takenIn}
 use Rattle.reader.proofs.Rules.{front}
 use Rattle.listing.specs.declared.Listed.{Listed}
 use Rattle.listing.specs.Text.{ascii}
-use Rattle.listing.specs.Listing.{field, frontLines, headLines, listAnswer, listNumber, listOutput, listing, shotLine, shotLines}
+use Rattle.listing.specs.Listing.{textRoom, field, frontLines, headLines, listAnswer, listNumber, listOutput, listing, shotLine, shotLines}
 use Rattle.listing.proofs.Puts.{Put, field-length, put-then}
 
 -- ---- lengths
@@ -99,16 +99,16 @@ unfolding listing
 long-listing f h = sym (simp (lt-ltb 65536 (length f) h))
 
 module _ (f : Bytes) (h : length f ≤ 65536) where
-  pub broken-listing : frontRules edition1 f ≡ false → ascii "front 12\n" ≡ listing f
+  pub broken-listing : frontRules f ≡ false → ascii "front 12\n" ≡ listing f
   unfolding listing
   broken-listing e = sym (simp (le-ltb 65536 (length f) h, e))
 
-  pub front-listing : frontRules edition1 f ≡ true → frontLines f ≡ listing f
+  pub front-listing : frontRules f ≡ true → frontLines f ≡ listing f
   unfolding listing
   front-listing e = sym (simp (le-ltb 65536 (length f) h, e))
 
 -- head and shots touch
-pub front-put : (f : Bytes) (h : Header) → h ≡ headerIn f → (o o₁ o₂ : Bytes) (i r : ℕ) → 4800 ≤ length o → h .kept .0 ≤ 60
+pub front-put : (f : Bytes) (h : Header) → h ≡ headerIn f → (o o₁ o₂ : Bytes) (i r : ℕ) → textRoom ≤ length o → h .kept .0 ≤ maxEntries
     → i ≡ length (headLines (h .«burst_number») (h .taken .0) (h .kept .0) (h .dropped)) → o₁ ≡ putBytes o 0 (headLines (h .«burst_number») (h .taken .0) (h .kept .0) (h .dropped))
     → r ≡ i + length (shotLines (entriesAt (h .kept .0) (h .index) f)) → o₂ ≡ putBytes o₁ i (shotLines (entriesAt (h .kept .0) (h .index) f))
     → (r ≡ length (frontLines f)) × (o₂ ≡ putBytes o 0 (frontLines f))
@@ -122,23 +122,23 @@ front-put f h eh o o₁ o₂ i r ho hk ei e₁ er e₂ =
     (p .index ∙ zero-add _ ∙ ap length e, p .bytes ∙ ap (putBytes o 0) e)
 
 -- ---- the call's answer
-pub list-refused : (f o : Bytes) → length o < 4800 → (record { refusal = 5; mark = 0; length = 0 } ≡ listAnswer f o) × (o ≡ listOutput f o)
+pub list-refused : (f o : Bytes) → length o < textRoom → (record { refusal = 5; mark = 0; length = 0 } ≡ listAnswer f o) × (o ≡ listOutput f o)
 unfolding listAnswer listOutput listNumber
-list-refused f o h = let z = lt-ltb (length o) 4800 h in (sym (simp z), sym (simp z))
+list-refused f o h = let z = lt-ltb (length o) textRoom h in (sym (simp z), sym (simp z))
 
-pub list-done : (f o o′ : Bytes) (n : ℕ) → 4800 ≤ length o → n ≡ length (listing f) → o′ ≡ putBytes o 0 (listing f)
+pub list-done : (f o o′ : Bytes) (n : ℕ) → textRoom ≤ length o → n ≡ length (listing f) → o′ ≡ putBytes o 0 (listing f)
     → (record { refusal = 0; mark = 0; length = n } ≡ listAnswer f o) × (o′ ≡ listOutput f o)
 unfolding listAnswer listOutput listNumber
 list-done f o o′ n h en eo =
-    let z = le-ltb (length o) 4800 h in
+    let z = le-ltb (length o) textRoom h in
     (ap (λ (n : ℕ). record { refusal = 0; mark = 0; length = n }) en ∙ sym (simp z), eo ∙ sym (simp z))
 
 -- ---- every text has room
-pub listing-length : (f : Bytes) → length (listing f) ≤ 4800
+pub listing-length : (f : Bytes) → length (listing f) ≤ textRoom
 unfolding listing frontLines
-listing-length f = by (ltb 65536 (length f)) (frontRules edition1 f) refl
+listing-length f = by (ltb 65536 (length f)) (frontRules f) refl
   where
-    by : (a b : Bool) → frontRules edition1 f ≡ b → length (pick a (ascii "front too long\n") (pick b (frontLines f) (ascii "front 12\n"))) ≤ 4800
+    by : (a b : Bool) → frontRules f ≡ b → length (pick a (ascii "front too long\n") (pick b (frontLines f) (ascii "front 12\n"))) ≤ textRoom
     by true b e = omega arith
     by false false e = omega arith
     by false true e =
@@ -148,11 +148,11 @@ listing-length f = by (ltb 65536 (length f)) (frontRules edition1 f) refl
         let l = length-append (headLines (burstNumberIn f) (takenIn f) (keptIn f) (droppedIn f)) (shotLines (entriesAt (keptIn f) (indexOffsetIn f) f)) in
         omega (arith, a, s, l, w .most, w .counts)
 
-pub told-length : (f o : Bytes) (r : Listed) → r ≡ listAnswer f o → r .length ≤ 4800
+pub told-length : (f o : Bytes) (r : Listed) → r ≡ listAnswer f o → r .length ≤ textRoom
 unfolding listAnswer
-told-length f o r e = subst (λ (n : ℕ). n ≤ 4800) (sym (ap (λ (r : Listed). r .length) e)) (by (eqb (listNumber o) 0))
+told-length f o r e = subst (λ (n : ℕ). n ≤ textRoom) (sym (ap (λ (r : Listed). r .length) e)) (by (eqb (listNumber o) 0))
   where
-    by : (t : Bool) → pick t (length (listing f)) 0 ≤ 4800
+    by : (t : Bool) → pick t (length (listing f)) 0 ≤ textRoom
     by true = listing-length f
     by false = omega arith
 

@@ -1,14 +1,14 @@
 -- What the lister prints for a file, without a key (01, "Afterwards": "The lister"): the front only is tested.
 -- Assumes nothing.
 use mathlib.Core.List.{List, [], _∷_, _++_}
-use Prim.Native.Nat.{ℕ}
+use Prim.Native.Nat.{ℕ, _*_}
 use lib.Dec.{eqb, ltb}
 use lib.ListN.{length}
 use Rattle.bytes_le.specs.Bytes.{Bytes, putBytes}
 use Rattle.icepole.specs.Sealing.{pick}
 use Rattle.icepole.specs.Answers.{_when_, refusal, unless}
 use Rattle.burst.specs.declared.Entry.{Entry}
-use Rattle.burst.specs.Layout.{edition1}
+use Rattle.burst.specs.Editions.{maxEntries}
 use Rattle.reader.specs.Front.{takenIn, keptIn, droppedIn, burstNumberIn, indexOffsetIn, entriesAt, frontRules}
 use Rattle.listing.specs.declared.Listed.{Listed}
 use Rattle.listing.specs.Text.{ascii, decimal}
@@ -45,11 +45,11 @@ frontLines f =
 unfoldable pub listing : Bytes → Bytes
 listing f =
     pick (ltb maxListed (length f)) (ascii "front too long\n")
-    (pick (frontRules edition1 f) (frontLines f) (ascii "front 12\n"))
+    (pick (frontRules f) (frontLines f) (ascii "front 12\n"))
 
--- ---- the call: 5 where the output has less than this room, which is enough for every text
+-- ---- the call: 5 where the output has less than this room, 80 bytes for each shot of the longest burst, which is enough for every text
 abbrev pub textRoom : ℕ
-textRoom = 4800
+textRoom = 80 * maxEntries
 
 unfoldable pub listNumber : Bytes → ℕ
 listNumber out = refusal ((5 when ltb (length out) textRoom) ∷ [])

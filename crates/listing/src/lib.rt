@@ -1,20 +1,22 @@
 // The text that the lister prints for a file (01, "Afterwards"): no key, front rules only.
 use burst::ENTRY_LENGTH;
+use burst::MAX_ENTRIES;
 use icepole::OUTPUT_TOO_SHORT;
 ghost use mathlib.Core.Path.{_≡_};
-ghost use mathlib.Core.List.{_++_};
 ghost use Prim.Native.Nat.{_+_, _*_, _≤_};
 ghost use lib.ListN.{length, drop};
 ghost use Rattle.bytes_le.specs.Bytes.{putBytes};
+ghost use Rattle.burst.specs.Editions.{maxEntries};
+ghost use Rattle.burst.specs.Layout.{entryLength};
 ghost use Rattle.reader.specs.Front.{entriesAt};
 ghost use Rattle.listing.specs.Text.{decimal};
-ghost use Rattle.listing.specs.Listing.{field, headLines, shotLine, shotLines, listing, listAnswer, listOutput};
+ghost use Rattle.listing.specs.Listing.{field, headLines, shotLine, shotLines, listing, textRoom, listAnswer, listOutput};
 
 // The longest file that is listed.
 pub const MAX_LISTED: usize = 65536;
 
-// Every text has room in so many bytes.
-pub const TEXT_ROOM: usize = 4800;
+// Every text has room in so many bytes: 80 for each shot of the longest burst.
+pub const TEXT_ROOM: usize = 80 * MAX_ENTRIES;
 
 // Digits of the largest number.
 const MAX_DIGITS: usize = 20;
@@ -88,7 +90,7 @@ fn put_shot(out: &mut [u8], at: usize, shot: u64, offset: u64, size: u64) -> usi
 
 // The lines of the entries from a position of the file on.
 fn put_shots(f: &[u8], count: usize, start: usize, out: &mut [u8], from: usize) -> usize
-    requires { ⌜ (start + 12 * count ≤ length (now f)) × (count ≤ 60) × (from + 78 * count ≤ length (now out)) ⌝ }
+    requires { ⌜ (start + entryLength * count ≤ length (now f)) × (count ≤ maxEntries) × (from + 78 * count ≤ length (now out)) ⌝ }
     ensures { λ r. ⌜ (r ≡ from + length (shotLines (entriesAt count start (now (f .entry)))))
         × (now (out .exit) ≡ putBytes (now (out .entry)) from (shotLines (entriesAt count start (now (f .entry))))) ⌝ }
 {
@@ -107,7 +109,7 @@ fn put_shots(f: &[u8], count: usize, start: usize, out: &mut [u8], from: usize) 
 
 // Puts the text for a file at the front of out; returns its length.
 fn put_listing(f: &[u8], out: &mut [u8]) -> usize
-    requires { ⌜ 4800 ≤ length (now out) ⌝ }
+    requires { ⌜ textRoom ≤ length (now out) ⌝ }
     ensures { λ r. ⌜ (r ≡ length (listing (now (f .entry)))) × (now (out .exit) ≡ putBytes (now (out .entry)) 0 (listing (now (f .entry)))) ⌝ }
 {
     if f.len() > MAX_LISTED {

@@ -1,24 +1,23 @@
 -- The reader's answers from plain facts, and what number 0 tells.
 -- Assumes nothing.
 use mathlib.Core.Bool.{Bool, true, false, not}
-use mathlib.Core.List.{List, [], _∷_}
+use mathlib.Core.List.{[]}
 use mathlib.Core.Option.{Option, some, none}
 use mathlib.Core.Path.{_≡_, refl, sym, ap, ap₂, _∙_}
-use Prim.Native.Nat.{ℕ, zero, suc, _+_, _*_, _≤_, _<_}
+use Prim.Native.Nat.{ℕ, zero, suc, _≤_, _<_}
 use native.Mathlib.Omega.{arith}
-use borrow.Author.Tests.{le-leb, lt-leb, eq-eqb, ne-eqb, lt-ltb, le-ltb, leb-false, ltb-false, eqb-true, not-false}
+use borrow.Author.Tests.{le-leb, lt-leb, eq-eqb, ne-eqb, lt-ltb, le-ltb, leb-false, eqb-true, not-false}
 use lib.Dec.{eqb, leb, ltb}
-use lib.ListN.{length, replicate}
+use lib.ListN.{length}
 use Rattle.bytes_le.specs.Bytes.{Bytes, putBytes}
 use Rattle.icepole.specs.Sealing.{pick}
 use Rattle.icepole.proofs.Numbers.{passed}
-use Rattle.burst.specs.Layout.{edition1}
 use Rattle.reader.specs.declared.Checked.{Checked}
 use Rattle.reader.specs.declared.Fetched.{Fetched}
 use Rattle.reader.specs.declared.Header.{Header}
 use Rattle.reader.specs.declared.Located.{Located}
-use Rattle.reader.specs.Front.{headerIn, takenIn, keptIn, droppedIn, burstNumberIn, indexOffsetIn, entryAt, positionOf, frontRules}
-use Rattle.reader.specs.Reader.{closingPart, recordPart, recordParts, agrees, secretIn, messageIn, sealedIn, firstDiffering, differing, some?, shotIn, notChecked, notFetched, checkNumber, checkMark, checkAnswer, recordNumber, locateAnswer, recordOffset, recordBytesIn, fetchNumber, fetchAnswer, fetchOutput}
+use Rattle.reader.specs.Front.{headerIn, keptIn, indexOffsetIn, entryAt, positionOf, frontRules}
+use Rattle.reader.specs.Reader.{closingPart, recordPart, recordParts, agrees, markIn, bodyIn, sealedIn, firstDiffering, differing, some?, notChecked, notFetched, checkNumber, checkMark, checkAnswer, recordNumber, locateAnswer, recordOffset, recordBytesIn, fetchNumber, fetchAnswer, fetchOutput}
 use Rattle.reader.proofs.Rules.{Front, front, InRange, in-range-at}
 use Rattle.reader.proofs.Parts.{first-agrees, all-agree}
 
@@ -40,11 +39,11 @@ module _ (key f : Bytes) where
   check-1 h = check-not 1 0 (λ e. omega arith) (simp (ne-eqb (length key) 16 h), simp (ne-eqb (length key) 16 h))
 
   module _ (hk : length key ≡ 16) where
-    pub check-12 : frontRules edition1 f ≡ false → notChecked 12 0 ≡ checkAnswer key f
+    pub check-12 : frontRules f ≡ false → notChecked 12 0 ≡ checkAnswer key f
     unfolding checkNumber checkMark
     check-12 h = check-not 12 0 (λ e. omega arith) (simp (eq-eqb (length key) 16 hk, h), simp (eq-eqb (length key) 16 hk, h))
 
-    module _ (hf : frontRules edition1 f ≡ true) where
+    module _ (hf : frontRules f ≡ true) where
       by-differing : (shot : ℕ) → differing key f ≡ some shot → notChecked 7 shot ≡ checkAnswer key f
       unfolding checkNumber checkMark
       by-differing shot d =
@@ -67,7 +66,7 @@ module _ (key f : Bytes) where
           unfolding checkNumber
           check-zero = simp (eq-eqb (length key) 16 hk, hf, all-records, hr)
 
-          pub check-0 : (h : Header) → h ≡ headerIn f → (site : Bytes) → site ≡ secretIn key f (closingPart f)
+          pub check-0 : (h : Header) → h ≡ headerIn f → (site : Bytes) → site ≡ markIn key f (closingPart f)
               → record { refusal = 0; mark = 0; «burst_number» = h .«burst_number»; «site_mark» = site; taken = h .taken .0; kept = h .kept .0; dropped = h .dropped } ≡ checkAnswer key f
           unfolding checkAnswer checkMark
           check-0 h e site s =
@@ -92,10 +91,6 @@ module _ (key f : Bytes) (c : Checked) (is : c ≡ checkAnswer key f) where
     unfolding checkAnswer
     checked-kept = ap (λ (x : Checked). x .kept) is ∙ simp zero-is
 
-    pub checked-burst : c .«burst_number» ≡ burstNumberIn f
-    unfolding checkAnswer
-    checked-burst = ap (λ (x : Checked). x .«burst_number») is ∙ simp zero-is
-
 -- ---- what an accepted file obeys
 pub record Accepted (key f : Bytes) : Type 0 where
   pub key16 : length key ≡ 16
@@ -111,7 +106,7 @@ pub accepted : (key f : Bytes) → checkNumber key f ≡ 0 → Accepted key f
 unfolding checkNumber differing
 accepted key f h =
     let p₁ = passed (not (eqb (length key) 16)) _ _ h in
-    let p₁₂ = passed (not (frontRules edition1 f)) _ _ (p₁ .1) in
+    let p₁₂ = passed (not (frontRules f)) _ _ (p₁ .1) in
     let p₇ = passed (some? (differing key f)) _ _ (p₁₂ .1) in
     let d = first-agrees key f (closingPart f) (recordParts (keptIn f) (indexOffsetIn f) f) (not-some (differing key f) (p₇ .0)) in
     record { key16 = eqb-true _ _ (not-false _ (p₁ .0)); front = front f (not-false _ (p₁₂ .0)); closing = d .0; records = d .1 }
@@ -146,7 +141,7 @@ module _ (key f : Bytes) (place : ℕ) where
 
   -- locate
   pub locate-check : (num mark : ℕ) → num ≡ checkNumber key f → mark ≡ checkMark key f → (num ≡ 0 → ⊥)
-      → record { refusal = num; mark = mark; «burst_number» = 0; position = 0 } ≡ locateAnswer key f place
+      → record { refusal = num; mark = mark; position = 0 } ≡ locateAnswer key f place
   unfolding locateAnswer recordNumber
   locate-check num mark e m h = sym (simp (sym e, sym m, ne-eqb num 0 h))
 
@@ -155,7 +150,7 @@ module _ (key f : Bytes) (place : ℕ) where
     unfolding checkMark
     mark-0 = simp hz
 
-    pub locate-13 : keptIn f ≤ place → record { refusal = 13; mark = 0; «burst_number» = 0; position = 0 } ≡ locateAnswer key f place
+    pub locate-13 : keptIn f ≤ place → record { refusal = 13; mark = 0; position = 0 } ≡ locateAnswer key f place
     unfolding locateAnswer recordNumber
     locate-13 h = sym (simp (hz, mark-0, le-leb (keptIn f) place h))
 
@@ -163,11 +158,11 @@ module _ (key f : Bytes) (place : ℕ) where
     unfolding recordNumber
     record-zero h = simp (hz, lt-leb (keptIn f) place h)
 
-    pub locate-0 : place < keptIn f → (burst position : ℕ) → burst ≡ burstNumberIn f → position ≡ positionOf f place
-        → record { refusal = 0; mark = 0; «burst_number» = burst; position = position } ≡ locateAnswer key f place
+    pub locate-0 : place < keptIn f → (position : ℕ) → position ≡ positionOf f place
+        → record { refusal = 0; mark = 0; position = position } ≡ locateAnswer key f place
     unfolding locateAnswer
-    locate-0 h burst position e₁ e₂ =
-        ap₂ (λ (b p : ℕ). let z : Located = record { refusal = 0; mark = 0; «burst_number» = b; position = p } in z) e₁ e₂
+    locate-0 h position e =
+        ap (λ (p : ℕ). let z : Located = record { refusal = 0; mark = 0; position = p } in z) e
         ∙ sym (simp (mark-0, record-zero h))
 
   -- what locate answers, field by field
@@ -186,10 +181,6 @@ module _ (key f : Bytes) (place : ℕ) where
 
       pub located-found : Found key f place
       located-found = found none-refused
-
-      pub located-burst : l .«burst_number» ≡ burstNumberIn f
-      unfolding locateAnswer
-      located-burst = ap (λ (x : Located). x .«burst_number») is ∙ simp none-refused
 
       pub located-position : l .position ≡ positionOf f place
       unfolding locateAnswer
@@ -241,8 +232,8 @@ module _ (key f : Bytes) (place : ℕ) where
       fetch-zero h = decides false (le-ltb (length out) (entryAt f (positionOf f place) .length) h)
 
       pub fetch-0 : entryAt f (positionOf f place) .length ≤ length out
-          → (record { refusal = 0; mark = 0; shot = entryAt f (positionOf f place) .shot; stamp = secretIn key f (recordPart f (positionOf f place)); length = entryAt f (positionOf f place) .length } ≡ fetchAnswer key f place out)
-          × (putBytes out 0 (messageIn key f (recordPart f (positionOf f place))) ≡ fetchOutput key f place out)
+          → (record { refusal = 0; mark = 0; shot = entryAt f (positionOf f place) .shot; stamp = markIn key f (recordPart f (positionOf f place)); length = entryAt f (positionOf f place) .length } ≡ fetchAnswer key f place out)
+          × (putBytes out 0 (bodyIn key f (recordPart f (positionOf f place))) ≡ fetchOutput key f place out)
       unfolding fetchAnswer fetchOutput
       fetch-0 h = (sym (simp (fetch-zero h, mark-0 (w .zero))), sym (simp (fetch-zero h)))
 

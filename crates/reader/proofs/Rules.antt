@@ -1,76 +1,96 @@
 -- The front rules as facts, and what they tell of every entry.
 -- Assumes nothing.
-use mathlib.Core.Bool.{Bool, true, false}
-use mathlib.Core.List.{List, [], _∷_}
-use mathlib.Core.Path.{_≡_, refl, sym, ap, subst, _∙_}
+use mathlib.Core.Bool.{Bool, true, false, _&&_}
+use mathlib.Core.Path.{_≡_, sym, ap, subst, _∙_}
 use Prim.Native.Nat.{ℕ, zero, suc, _+_, _*_, _≤_, _<_}
 use native.Mathlib.Omega.{arith}
-use borrow.Author.Tests.{le-leb, eq-eqb, leb-true, eqb-true}
+use native.Mathlib.Numerals.{add-one}
+use borrow.Author.Tests.{le-leb, eq-eqb, ne-eqb, leb-true, eqb-true}
 use lib.Dec.{eqb, leb}
-use lib.ListN.{length}
+use lib.ListN.{length, take, drop, getD, length-take, drop-of-length-le}
+use lib.Seq.{slice-cons}
 use Rattle.bytes_le.specs.Bytes.{Bytes}
-use Rattle.burst.specs.declared.Entry.{Entry}
-use Rattle.burst.specs.Layout.{edition1}
+use Rattle.burst.specs.declared.Edition.{Edition}
+use Rattle.burst.specs.Editions.{Known}
 use Rattle.burst.specs.Numbers.{usedAfter}
 use Rattle.burst.specs.Index.{entryRules, indexRules}
+use Rattle.burst.proofs.Rows.{numbered-known}
 use Rattle.burst.proofs.Rules.{and-true, Obeys, index-end, index-next, index-fault, index-obeys, index-used}
 use Rattle.reader.specs.declared.Header.{Header}
-use Rattle.reader.specs.Front.{headerIn, editionIn, takenIn, keptIn, droppedIn, pictureOffsetIn, indexOffsetIn, closingOffsetIn, totalIn, entryAt, entriesAt, frontRules}
+use Rattle.reader.specs.Front.{headerIn, editionIn, takenIn, keptIn, droppedIn, pictureOffsetIn, indexOffsetIn, closingOffsetIn, totalIn, entryAt, entriesAt, rowOf, allZero, restRules, frontRulesOf, frontRules}
 
-abbrev pub rulesIn : Bytes → Bool
-rulesIn f = indexRules 0 32 (takenIn f) (indexOffsetIn f) (entriesAt (keptIn f) (indexOffsetIn f) f)
+abbrev pub rulesIn : Edition → Bytes → Bool
+rulesIn e f = indexRules 0 (e .header) (takenIn f) (indexOffsetIn f) (entriesAt (keptIn f) (indexOffsetIn f) f)
 
-pub record Front (f : Bytes) : Type 0 where
-  pub least : 64 ≤ length f
-  pub edition : editionIn f ≡ 1
-  pub pictures : pictureOffsetIn f ≡ 32
-  pub most : takenIn f ≤ 60
+pub record FrontOf (e : Edition) (f : Bytes) : Type 0 where
+  pub known : Known e
+  pub least : e .header + 12 * 0 + 32 ≤ length f
+  pub edition : editionIn f ≡ e .number
+  pub pictures : pictureOffsetIn f ≡ e .header
+  pub most : takenIn f ≤ e .shots
   pub counts : takenIn f ≡ keptIn f + droppedIn f
   pub closing : closingOffsetIn f ≡ indexOffsetIn f + 12 * keptIn f
   pub total : totalIn f ≡ closingOffsetIn f + 32
   pub size : totalIn f ≡ length f
-  pub index : rulesIn f ≡ true
+  pub rest : restRules e f ≡ true
+  pub index : rulesIn e f ≡ true
 
-pub front : (f : Bytes) → frontRules edition1 f ≡ true → Front f
-unfolding frontRules
-front f h =
-    let h₁ = and-true (leb 64 (length f)) _ h in
-    let h₂ = and-true (eqb (editionIn f) 1) _ (h₁ .1) in
-    let h₃ = and-true (eqb (pictureOffsetIn f) 32) _ (h₂ .1) in
-    let h₄ = and-true (leb (takenIn f) 60) _ (h₃ .1) in
-    let h₅ = and-true (eqb (takenIn f) (keptIn f + droppedIn f)) _ (h₄ .1) in
-    let h₆ = and-true (eqb (closingOffsetIn f) (indexOffsetIn f + 12 * keptIn f)) _ (h₅ .1) in
-    let h₇ = and-true (eqb (totalIn f) (closingOffsetIn f + 32)) _ (h₆ .1) in
-    let h₈ = and-true (eqb (totalIn f) (length f)) _ (h₇ .1) in
-    record {
-      least = leb-true _ _ (h₁ .0);
-      edition = eqb-true _ _ (h₂ .0);
-      pictures = eqb-true _ _ (h₃ .0);
-      most = leb-true _ _ (h₄ .0);
-      counts = eqb-true _ _ (h₅ .0);
-      closing = eqb-true _ _ (h₆ .0);
-      total = eqb-true _ _ (h₇ .0);
-      size = eqb-true _ _ (h₈ .0);
-      index = h₈ .1;
-    }
+abbrev pub Front : Bytes → Type 0
+Front f = FrontOf (rowOf f) f
 
--- all rules but those of the index: what is left is these
-pub front-is : (f : Bytes) → 64 ≤ length f → editionIn f ≡ 1 → pictureOffsetIn f ≡ 32 → takenIn f ≤ 60 → takenIn f ≡ keptIn f + droppedIn f
-    → closingOffsetIn f ≡ indexOffsetIn f + 12 * keptIn f → totalIn f ≡ closingOffsetIn f + 32 → totalIn f ≡ length f
-    → rulesIn f ≡ frontRules edition1 f
+module _ (e : Edition) (f : Bytes) where
+  front-of : Known e → frontRulesOf e f ≡ true → FrontOf e f
+  unfolding frontRulesOf
+  front-of k h =
+      let h₁ = and-true (leb (e .header + 12 * 0 + 32) (length f)) _ h in
+      let h₂ = and-true (eqb (editionIn f) (e .number)) _ (h₁ .1) in
+      let h₃ = and-true (eqb (pictureOffsetIn f) (e .header)) _ (h₂ .1) in
+      let h₄ = and-true (leb (takenIn f) (e .shots)) _ (h₃ .1) in
+      let h₅ = and-true (eqb (takenIn f) (keptIn f + droppedIn f)) _ (h₄ .1) in
+      let h₆ = and-true (eqb (closingOffsetIn f) (indexOffsetIn f + 12 * keptIn f)) _ (h₅ .1) in
+      let h₇ = and-true (eqb (totalIn f) (closingOffsetIn f + 32)) _ (h₆ .1) in
+      let h₈ = and-true (eqb (totalIn f) (length f)) _ (h₇ .1) in
+      let h₉ = and-true (restRules e f) _ (h₈ .1) in
+      record {
+        known = k;
+        least = leb-true _ _ (h₁ .0);
+        edition = eqb-true _ _ (h₂ .0);
+        pictures = eqb-true _ _ (h₃ .0);
+        most = leb-true _ _ (h₄ .0);
+        counts = eqb-true _ _ (h₅ .0);
+        closing = eqb-true _ _ (h₆ .0);
+        total = eqb-true _ _ (h₇ .0);
+        size = eqb-true _ _ (h₈ .0);
+        rest = h₉ .0;
+        index = h₉ .1;
+      }
+
+  -- all rules but those of the index: what is left is these
+  pub front-is : e .header + 12 * 0 + 32 ≤ length f → editionIn f ≡ e .number → pictureOffsetIn f ≡ e .header → takenIn f ≤ e .shots → takenIn f ≡ keptIn f + droppedIn f
+      → closingOffsetIn f ≡ indexOffsetIn f + 12 * keptIn f → totalIn f ≡ closingOffsetIn f + 32 → totalIn f ≡ length f → restRules e f ≡ true
+      → rulesIn e f ≡ frontRulesOf e f
+  unfolding frontRulesOf
+  front-is h₁ h₂ h₃ h₄ h₅ h₆ h₇ h₈ h₉ =
+      sym
+      (simp (
+        le-leb (e .header + 12 * 0 + 32) (length f) h₁,
+        eq-eqb (editionIn f) (e .number) h₂,
+        eq-eqb (pictureOffsetIn f) (e .header) h₃,
+        le-leb (takenIn f) (e .shots) h₄,
+        eq-eqb (takenIn f) (keptIn f + droppedIn f) h₅,
+        eq-eqb (closingOffsetIn f) (indexOffsetIn f + 12 * keptIn f) h₆,
+        eq-eqb (totalIn f) (closingOffsetIn f + 32) h₇,
+        eq-eqb (totalIn f) (length f) h₈,
+        h₉,
+      ))
+
+pub front : (f : Bytes) → frontRules f ≡ true → Front f
 unfolding frontRules
-front-is f h₁ h₂ h₃ h₄ h₅ h₆ h₇ h₈ =
-    sym
-    (simp (
-      le-leb 64 (length f) h₁,
-      eq-eqb (editionIn f) 1 h₂,
-      eq-eqb (pictureOffsetIn f) 32 h₃,
-      le-leb (takenIn f) 60 h₄,
-      eq-eqb (takenIn f) (keptIn f + droppedIn f) h₅,
-      eq-eqb (closingOffsetIn f) (indexOffsetIn f + 12 * keptIn f) h₆,
-      eq-eqb (totalIn f) (closingOffsetIn f + 32) h₇,
-      eq-eqb (totalIn f) (length f) h₈,
-    ))
+front f h = front-of (rowOf f) f (numbered-known _) h
+
+pub front-at : (e : Edition) (f : Bytes) → e ≡ rowOf f → frontRulesOf e f ≡ frontRules f
+unfolding frontRules
+front-at e f own = ap (λ (x : Edition). frontRulesOf x f) own
 
 -- ---- a turn over the entries of a file
 module _ (f : Bytes) (last offset taken end left position : ℕ) where
@@ -114,30 +134,51 @@ in-range f (suc n) position last offset taken end (suc j) h g =
     let e : position + 12 + 12 * j ≡ position + 12 * suc j = omega arith in
     rw (sym e) (in-range f n (position + 12) _ _ taken end j (w .1) (omega arith))
 
--- ---- the same of a header that was read from the file
-pub record Reads (f : Bytes) (h : Header) : Type 0 where
-  pub edition : h .edition ≡ 1
-  pub pictures : h .pictures ≡ 32
-  pub most : h .taken .0 ≤ 60
+-- ---- the same of a header and an edition that were read from the file
+pub record Reads (f : Bytes) (e : Edition) (h : Header) : Type 0 where
+  pub known : Known e
+  pub least : e .header + 12 * 0 + 32 ≤ length f
+  pub edition : h .edition ≡ e .number
+  pub pictures : h .pictures ≡ e .header
+  pub most : h .taken .0 ≤ e .shots
   pub counts : h .taken .0 ≡ h .kept .0 + h .dropped
   pub closing : h .closing ≡ h .index + 12 * h .kept .0
   pub total : h .total ≡ h .closing + 32
   pub size : h .total ≡ length f
+  pub rest : restRules e f ≡ true
 
-module _ (f : Bytes) (h : Header) (e : h ≡ headerIn f) where
-  pub reads : Front f → Reads f h
+module _ (f : Bytes) (e : Edition) (h : Header) (is : h ≡ headerIn f) (row : e ≡ rowOf f) where
+  pub reads : Front f → Reads f e h
   reads w =
-      subst (λ (x : Header). Reads f x) (sym e)
-      (record { edition = w .edition; pictures = w .pictures; most = w .most; counts = w .counts; closing = w .closing; total = w .total; size = w .size })
+      subst (λ (x : Edition). Reads f x h) (sym row)
+      (subst (λ (x : Header). Reads f (rowOf f) x) (sym is)
+      (record { known = w .known; least = w .least; edition = w .edition; pictures = w .pictures; most = w .most; counts = w .counts; closing = w .closing; total = w .total; size = w .size; rest = w .rest }))
 
-  pub reads-is : 64 ≤ length f → Reads f h → indexRules 0 32 (h .taken .0) (h .index) (entriesAt (h .kept .0) (h .index) f) ≡ frontRules edition1 f
-  reads-is l w =
-      let w′ : Reads f (headerIn f) = subst (λ (x : Header). Reads f x) e w in
-      ap (λ (x : Header). indexRules 0 32 (x .taken .0) (x .index) (entriesAt (x .kept .0) (x .index) f)) e
-      ∙ front-is f l (w′ .edition) (w′ .pictures) (w′ .most) (w′ .counts) (w′ .closing) (w′ .total) (w′ .size)
+  pub reads-is : Reads f e h → indexRules 0 (e .header) (h .taken .0) (h .index) (entriesAt (h .kept .0) (h .index) f) ≡ frontRules f
+  reads-is w =
+      let v : Reads f e (headerIn f) = subst (λ (x : Header). Reads f e x) is w in
+      ap (λ (x : Header). indexRules 0 (e .header) (x .taken .0) (x .index) (entriesAt (x .kept .0) (x .index) f)) is
+      ∙ front-is e f (v .least) (v .edition) (v .pictures) (v .most) (v .counts) (v .closing) (v .total) (v .size) (v .rest)
+      ∙ front-at e f row
 
 -- the entry of a place
 pub in-range-at : (f : Bytes) (position j : ℕ) → Front f → j < keptIn f → position ≡ indexOffsetIn f + 12 * j → InRange f position (indexOffsetIn f)
 in-range-at f position j w g e =
     subst (λ (i : ℕ). InRange f i (indexOffsetIn f)) (sym e)
-    (in-range f (keptIn f) (indexOffsetIn f) 0 32 (takenIn f) (indexOffsetIn f) j (w .index) g)
+    (in-range f (keptIn f) (indexOffsetIn f) 0 (rowOf f .header) (takenIn f) (indexOffsetIn f) j (w .index) g)
+
+-- ---- a turn over the header's bytes behind its nine fields
+module _ (f : Bytes) (header i : ℕ) (h : i < header) (g : header ≤ length f) where
+  next-byte : allZero (drop i (take header f)) ≡ (eqb (getD f i 0) 0 && allZero (drop (suc i) (take header f)))
+  next-byte = ap allZero (slice-cons i header f 0 h g)
+
+  pub byte-zero : getD f i 0 ≡ 0 → allZero (drop i (take header f)) ≡ allZero (drop (i + 1) (take header f))
+  byte-zero z =
+      next-byte ∙ ap (λ (b : Bool). b && allZero (drop (suc i) (take header f))) (eq-eqb (getD f i 0) 0 z)
+      ∙ ap (λ (k : ℕ). allZero (drop k (take header f))) (sym (add-one i))
+
+  pub byte-not : (getD f i 0 ≡ 0 → ⊥) → allZero (drop i (take header f)) ≡ false
+  byte-not z = next-byte ∙ ap (λ (b : Bool). b && allZero (drop (suc i) (take header f))) (ne-eqb (getD f i 0) 0 z)
+
+pub bytes-end : (f : Bytes) (header i : ℕ) → header ≤ i → allZero (drop i (take header f)) ≡ true
+bytes-end f header i h = ap allZero (drop-of-length-le (take header f) {i = i} (simp length-take (omega arith)))

@@ -1,14 +1,18 @@
 -- The front of a file (01, "The burst file"): what header and index say, and the front rules. No key is needed.
 -- Assumes nothing.
-use mathlib.Core.Bool.{Bool, _&&_}
+use mathlib.Core.Bool.{Bool, true, _&&_}
 use mathlib.Core.List.{List, [], _∷_}
 use Prim.Native.Nat.{ℕ, zero, suc, _+_, _*_}
 use lib.Dec.{eqb, leb}
-use lib.ListN.{length}
+use lib.ListN.{length, take, drop}
 use Rattle.bytes_le.specs.Bytes.{Bytes, leAt}
 use Rattle.burst.specs.declared.Entry.{Entry}
 use Rattle.reader.specs.declared.Header.{Header}
-use Rattle.burst.specs.Layout.{Edition, entryLength, sealLength, closingOffset}
+use Rattle.burst.specs.declared.Edition.{Edition}
+use Rattle.burst.specs.declared.Name.{Name}
+use Rattle.burst.specs.Editions.{fieldsLength, numbered}
+use Rattle.burst.specs.Parts.{sealLength}
+use Rattle.burst.specs.Layout.{entryLength, closingOffset}
 use Rattle.burst.specs.Numbers.{totalFrom}
 use Rattle.burst.specs.Index.{indexRules}
 
@@ -40,7 +44,15 @@ closingOffsetIn f = leAt 4 f 24
 abbrev pub totalIn : Bytes → ℕ
 totalIn f = leAt 4 f 28
 
--- the same, as the code reads them
+-- the file's row, from its own edition number
+abbrev pub rowOf : Bytes → Edition
+rowOf f = numbered (editionIn f)
+
+-- the name of the file's burst
+abbrev pub nameIn : Bytes → Name
+nameIn f = record { burst = burstNumberIn f }
+
+-- the header's numbers, as the code reads them
 abbrev pub headerIn : Bytes → Header
 headerIn f = record {
   edition = editionIn f;
@@ -74,14 +86,27 @@ entriesAt zero position f = []
 entriesAt (suc n) position f = entryAt f position ∷ entriesAt n (position + entryLength) f
 
 -- ---- the front rules. Sums are of numbers, so none wraps
-unfoldable pub frontRules : Edition → Bytes → Bool
-frontRules e f =
-    leb (totalFrom (e .headerLength) 0) (length f)
+abbrev pub allZero : Bytes → Bool
+allZero [] = true
+allZero (x ∷ xs) = eqb x 0 && allZero xs
+
+-- the header's bytes behind its nine fields
+unfoldable pub restRules : Edition → Bytes → Bool
+restRules e f = allZero (drop fieldsLength (take (e .header) f))
+
+-- the rules of a row, its least length first
+unfoldable pub frontRulesOf : Edition → Bytes → Bool
+frontRulesOf e f =
+    leb (totalFrom (e .header) 0) (length f)
     && (eqb (editionIn f) (e .number)
-    && (eqb (pictureOffsetIn f) (e .headerLength)
-    && (leb (takenIn f) (e .maxShots)
+    && (eqb (pictureOffsetIn f) (e .header)
+    && (leb (takenIn f) (e .shots)
     && (eqb (takenIn f) (keptIn f + droppedIn f)
     && (eqb (closingOffsetIn f) (closingOffset (indexOffsetIn f) (keptIn f))
     && (eqb (totalIn f) (closingOffsetIn f + sealLength)
     && (eqb (totalIn f) (length f)
-    && indexRules 0 (e .headerLength) (takenIn f) (indexOffsetIn f) (entriesAt (keptIn f) (indexOffsetIn f) f))))))))
+    && (restRules e f
+    && indexRules 0 (e .header) (takenIn f) (indexOffsetIn f) (entriesAt (keptIn f) (indexOffsetIn f) f)))))))))
+
+unfoldable pub frontRules : Bytes → Bool
+frontRules f = frontRulesOf (rowOf f) f

@@ -7,18 +7,18 @@ use Prim.Native.Nat.{ℕ, zero, suc, _+_, _*_}
 use lib.Dec.{eqb, leb, ltb}
 use lib.ListN.{length, take, drop, replicate}
 use Rattle.bytes_le.specs.Bytes.{Bytes, putBytes}
-use Rattle.icepole.specs.declared.Variant.the-variants.{Icepole128}
-use Rattle.icepole.specs.Variants.{sizes}
-use Rattle.icepole.specs.Sealing.{pick, secretOf, messageOf}
-use Rattle.icepole.specs.Answers.{refusal, _when_, unless, tagAgrees}
-use Rattle.burst.specs.Layout.{edition1, entryLength, sealLength, closingOffset, nonceOf}
+use Rattle.icepole.specs.declared.Opened.{Opened}
+use Rattle.icepole.specs.Sealing.{pick}
+use Rattle.icepole.specs.Answers.{refusal, _when_, unless}
+use Rattle.burst.specs.Parts.{sealLength, partAgrees, partMark, partBody, partAnswer}
+use Rattle.burst.specs.Layout.{entryLength, closingOffset}
 use Rattle.reader.specs.declared.Checked.{Checked}
 use Rattle.reader.specs.declared.Fetched.{Fetched}
 use Rattle.reader.specs.declared.Located.{Located}
-use Rattle.reader.specs.Front.{takenIn, keptIn, droppedIn, burstNumberIn, indexOffsetIn, entryAt, positionOf, frontRules}
+use Rattle.reader.specs.Front.{rowOf, nameIn, takenIn, keptIn, droppedIn, burstNumberIn, indexOffsetIn, entryAt, positionOf, frontRules}
 
 -- ---- the sealed parts of a file
--- the shot number, 0 for the closing seal; the associated data; where the part stands; and the length of its message
+-- the shot number, 0 for the closing seal; the associated data; where the part stands; and the length of its body
 pub record Part : Type 0 where
   pub shot : ℕ
   pub associated : Bytes
@@ -29,7 +29,7 @@ pub record Part : Type 0 where
 abbrev pub closingPart : Bytes → Part
 closingPart f = record {
   shot = 0;
-  associated = take (edition1 .headerLength) f ++ take (entryLength * keptIn f) (drop (indexOffsetIn f) f);
+  associated = take (rowOf f .header) f ++ take (entryLength * keptIn f) (drop (indexOffsetIn f) f);
   offset = closingOffset (indexOffsetIn f) (keptIn f);
   count = 0;
 }
@@ -51,14 +51,19 @@ module _ (key f : Bytes) where
   abbrev pub sealedIn : Part → Bytes
   sealedIn p = take (p .count + sealLength) (drop (p .offset) f)
 
+  -- whether its tag agrees, its mark (the stamp, or the site mark), and its body
   unfoldable pub agrees : Part → Bool
-  agrees p = tagAgrees (sizes Icepole128) key (nonceOf (burstNumberIn f) (p .shot)) (p .associated) (sealedIn p)
+  agrees p = partAgrees (rowOf f) key (nameIn f) (p .shot) (p .associated) (sealedIn p)
 
-  unfoldable pub secretIn : Part → Bytes
-  secretIn p = secretOf (sizes Icepole128) key (nonceOf (burstNumberIn f) (p .shot)) (sealedIn p)
+  unfoldable pub markIn : Part → Bytes
+  markIn p = partMark (rowOf f) key (nameIn f) (p .shot) (p .associated) (sealedIn p)
 
-  unfoldable pub messageIn : Part → Bytes
-  messageIn p = messageOf (sizes Icepole128) key (nonceOf (burstNumberIn f) (p .shot)) (p .associated) (sealedIn p)
+  unfoldable pub bodyIn : Part → Bytes
+  bodyIn p = partBody (rowOf f) key (nameIn f) (p .shot) (p .associated) (sealedIn p)
+
+  -- what verifying it answers
+  unfoldable pub answerIn : Part → Opened
+  answerIn p = partAnswer (rowOf f) key (nameIn f) (p .shot) (p .associated) (sealedIn p)
 
   -- the shot number of the first part whose tag differs
   unfoldable pub firstDiffering : List Part → Option ℕ
@@ -105,7 +110,7 @@ module _ (key f : Bytes) where
   checkNumber =
       refusal
       ((1 when not (eqb (length key) 16))
-      ∷ (12 when not (frontRules edition1 f))
+      ∷ (12 when not (frontRules f))
       ∷ (7 when some? (differing key f))
       ∷ [])
 
@@ -118,7 +123,7 @@ module _ (key f : Bytes) where
     refusal = checkNumber;
     mark = checkMark;
     «burst_number» = given checkNumber (burstNumberIn f);
-    «site_mark» = given16 checkNumber (secretIn key f (closingPart f));
+    «site_mark» = given16 checkNumber (markIn key f (closingPart f));
     taken = given checkNumber (takenIn f);
     kept = given checkNumber (keptIn f);
     dropped = given checkNumber (droppedIn f);
@@ -134,7 +139,6 @@ module _ (key f : Bytes) (place : ℕ) where
   locateAnswer = record {
     refusal = recordNumber;
     mark = checkMark key f;
-    «burst_number» = given recordNumber (burstNumberIn f);
     position = given recordNumber (positionOf f place);
   }
 
@@ -159,9 +163,9 @@ module _ (key f : Bytes) (place : ℕ) where
       refusal = fetchNumber;
       mark = checkMark key f;
       shot = record { 0 = given fetchNumber (entryAt f (positionOf f place) .shot .0) };
-      stamp = given16 fetchNumber (secretIn key f (recordPart f (positionOf f place)));
+      stamp = given16 fetchNumber (markIn key f (recordPart f (positionOf f place)));
       length = given fetchNumber (entryAt f (positionOf f place) .length);
     }
 
     unfoldable pub fetchOutput : Bytes
-    fetchOutput = unless fetchNumber out (putBytes out 0 (messageIn key f (recordPart f (positionOf f place))))
+    fetchOutput = unless fetchNumber out (putBytes out 0 (bodyIn key f (recordPart f (positionOf f place))))

@@ -1,11 +1,11 @@
 // The reader of bursts (01, "Reader"): check, fetch by place, and the sealed record of a place.
-use burst::EDITION;
 use burst::ENTRY_LENGTH;
+use burst::Edition;
 use burst::Entry;
+use burst::FIELDS_LENGTH;
 use burst::FRONT_BROKEN;
-use burst::HEADER_LENGTH;
-use burst::MAX_SHOTS;
 use burst::NO_SUCH_PLACE;
+use burst::Name;
 use burst::Place;
 use burst::SEAL_LENGTH;
 use burst::Shot;
@@ -13,21 +13,17 @@ use icepole::KEY_LENGTH;
 use icepole::OUTPUT_TOO_SHORT;
 use icepole::Opened;
 use icepole::TAG_DIFFERS;
-use icepole::Variant;
 ghost use mathlib.Core.Path.{_≡_};
 ghost use mathlib.Core.Bool.{true};
-ghost use mathlib.Core.List.{_++_};
 ghost use Prim.Native.Nat.{_+_, _*_, _≤_, _<_};
-ghost use lib.ListN.{length, take, drop};
+ghost use lib.ListN.{length};
 ghost use Rattle.bytes_le.specs.Bytes.{putBytes};
-ghost use Rattle.icepole.specs.declared.Variant.the-variants.{Icepole128};
-ghost use Rattle.icepole.specs.Variants.{sizes};
-ghost use Rattle.icepole.specs.Sealing.{pick, secretOf};
-ghost use Rattle.icepole.specs.Answers.{tagAgrees, openedAnswer};
-ghost use Rattle.burst.specs.Layout.{edition1, nonceOf};
+ghost use Rattle.burst.specs.Editions.{fieldsLength, maxEntries, maxHeader, Known};
+ghost use Rattle.burst.specs.Parts.{sealLength};
+ghost use Rattle.burst.specs.Layout.{entryLength, maxPicture};
 ghost use Rattle.burst.specs.Index.{indexRules};
-ghost use Rattle.reader.specs.Front.{headerIn, keptIn, burstNumberIn, indexOffsetIn, entryAt, entriesAt, frontRules};
-ghost use Rattle.reader.specs.Reader.{closingPart, recordPart, recordParts, agrees, secretIn, messageIn, firstDiffering, notChecked, notFetched, checkMark, checkAnswer, locateAnswer, recordNumber, recordOffset, recordBytesIn, fetchAnswer, fetchOutput};
+ghost use Rattle.reader.specs.Front.{headerIn, keptIn, indexOffsetIn, entryAt, entriesAt, rowOf, nameIn, restRules, frontRules};
+ghost use Rattle.reader.specs.Reader.{closingPart, recordPart, recordParts, agrees, answerIn, markIn, bodyIn, firstDiffering, notChecked, notFetched, checkMark, checkAnswer, locateAnswer, recordNumber, recordOffset, recordBytesIn, fetchAnswer, fetchOutput};
 ghost use Rattle.reader.specs.Verdicts.{differingOf};
 
 // What check answers: a refusal number with its mark, or what the file says.
@@ -45,7 +41,6 @@ pub struct Checked {
 pub struct Located {
     pub refusal: u32,
     pub mark: u32,
-    pub burst_number: u64,
     pub position: usize,
 }
 
@@ -58,9 +53,6 @@ pub struct Fetched {
     pub length: u32,
 }
 
-// Header and closing seal: the shortest file.
-const MIN_LENGTH: usize = 64;
-
 // Whether the tags of some records agree, or the first shot whose tag differs.
 enum Verdict {
     Agree,
@@ -69,7 +61,7 @@ enum Verdict {
 
 // The entry that stands at a position of the file.
 pub fn entry_at(f: &[u8], position: usize) -> Entry
-    requires { ⌜ position + 12 ≤ length (now f) ⌝ }
+    requires { ⌜ position + entryLength ≤ length (now f) ⌝ }
     ensures { λ e. ⌜ e ≡ entryAt (now (f .entry)) position ⌝ }
 {
     let shot = bytes_le::load_le(f, position, 2);
@@ -85,14 +77,14 @@ pub fn entry_at(f: &[u8], position: usize) -> Entry
 }
 
 // Whether the entries from a position on obey the index rules.
-fn index_ok(f: &[u8], count: usize, start: usize, taken: u16, end: u32) -> bool
-    requires { ⌜ (start + 12 * count ≤ length (now f)) × (count ≤ 60) ⌝ }
-    ensures { λ b. ⌜ b ≡ indexRules 0 32 taken end (entriesAt count start (now (f .entry))) ⌝ }
+fn index_ok(f: &[u8], header: u32, count: usize, start: usize, taken: u16, end: u32) -> bool
+    requires { ⌜ (start + entryLength * count ≤ length (now f)) × (count ≤ maxEntries) × (header ≤ maxHeader) ⌝ }
+    ensures { λ b. ⌜ b ≡ indexRules 0 header taken end (entriesAt count start (now (f .entry))) ⌝ }
 {
     let mut left = count;
     let mut position = start;
     let mut last: u16 = 0;
-    let mut offset = HEADER_LENGTH;
+    let mut offset = header;
     while 0 < left {
         let e = entry_at(f, position);
         if !burst::entry_ok(Shot(last), offset, Shot(taken), e) {
@@ -120,7 +112,7 @@ pub struct Header {
 }
 
 pub fn header_in(f: &[u8]) -> Header
-    requires { ⌜ 32 ≤ length (now f) ⌝ }
+    requires { ⌜ fieldsLength ≤ length (now f) ⌝ }
     ensures { λ h. ⌜ h ≡ headerIn (now (f .entry)) ⌝ }
 {
     let edition = bytes_le::load_le(f, 0, 2);
@@ -145,21 +137,61 @@ pub fn header_in(f: &[u8]) -> Header
     }
 }
 
+// The row of a file's edition number.
+fn edition_in(f: &[u8]) -> Edition
+    requires { ⌜ fieldsLength ≤ length (now f) ⌝ }
+    ensures { λ e. ⌜ (e ≡ rowOf (now (f .entry))) × Known e ⌝ }
+{
+    let h = header_in(f);
+    burst::edition_numbered(h.edition)
+}
+
+// The name of a file's burst.
+fn name_in(f: &[u8]) -> Name
+    requires { ⌜ fieldsLength ≤ length (now f) ⌝ }
+    ensures { λ n. ⌜ n ≡ nameIn (now (f .entry)) ⌝ }
+{
+    let h = header_in(f);
+    Name {
+        burst: h.burst_number,
+    }
+}
+
+// Whether the header's bytes behind its nine fields are zero.
+fn rest_ok(e: Edition, f: &[u8]) -> bool
+    requires { ⌜ e .header ≤ length (now f) ⌝ }
+    ensures { λ b. ⌜ b ≡ restRules e (now (f .entry)) ⌝ }
+{
+    let header = e.header as usize;
+    let mut i = FIELDS_LENGTH;
+    while i < header {
+        if f[i] != 0 {
+            return false;
+        }
+        i += 1;
+    }
+    true
+}
+
 // The front rules. Sums are of wider numbers, so none wraps.
 pub fn front_ok(f: &[u8]) -> bool
-    ensures { λ b. ⌜ b ≡ frontRules edition1 (now (f .entry)) ⌝ }
+    ensures { λ b. ⌜ b ≡ frontRules (now (f .entry)) ⌝ }
 {
-    if f.len() < MIN_LENGTH {
+    if f.len() < FIELDS_LENGTH {
         return false;
     }
     let h = header_in(f);
-    if h.edition != EDITION {
+    let e = edition_in(f);
+    if f.len() < (e.header + SEAL_LENGTH) as usize {
         return false;
     }
-    if h.pictures != HEADER_LENGTH {
+    if h.edition != e.number {
         return false;
     }
-    if h.taken.0 > MAX_SHOTS {
+    if h.pictures != e.header {
+        return false;
+    }
+    if h.taken.0 > e.shots {
         return false;
     }
     let kept = h.kept.0 as usize;
@@ -177,69 +209,53 @@ pub fn front_ok(f: &[u8]) -> bool
     if h.total as usize != f.len() {
         return false;
     }
-    index_ok(f, kept, index, h.taken.0, h.index)
-}
-
-// Verifies the sealed part of count + 32 bytes that stands at an offset of the file; answers its secret number, not its message.
-fn verify_part(
-    key: &[u8],
-    f: &[u8],
-    nonce: &[u8],
-    first: &[u8],
-    second: &[u8],
-    offset: usize,
-    count: usize,
-) -> Opened
-    requires { ⌜ (length (now key) ≡ 16) × (length (now nonce) ≡ 16) × (length (now first) + length (now second) ≤ 752) × (count ≤ 1048576) × (offset + (count + 32) ≤ length (now f)) ⌝ }
-    ensures { λ r. ⌜ r ≡ openedAnswer
-        (pick (tagAgrees (sizes Icepole128) (now (key .entry)) (now (nonce .entry)) (now (first .entry) ++ now (second .entry)) (take (count + 32) (drop offset (now (f .entry))))) 0 7)
-        count
-        (secretOf (sizes Icepole128) (now (key .entry)) (now (nonce .entry)) (take (count + 32) (drop offset (now (f .entry))))) ⌝ }
-{
-    let end = offset + (count + 32);
-    icepole::verify(
-        Variant::Icepole128,
-        key,
-        nonce,
-        first,
-        second,
-        &f[offset..end],
-    )
+    if !rest_ok(e, f) {
+        return false;
+    }
+    index_ok(f, e.header, kept, index, h.taken.0, h.index)
 }
 
 // Whether the tag agrees of the record whose entry stands at a position.
-fn record_agrees(key: &[u8], f: &[u8], burst_number: u64, position: usize) -> bool
-    requires { ⌜ (length (now key) ≡ 16) × («burst_number» ≡ burstNumberIn (now f)) × (position + 12 ≤ length (now f)) × (entryAt (now f) position .length ≤ 1048576)
-        × (entryAt (now f) position .offset + (entryAt (now f) position .length + 32) ≤ length (now f)) ⌝ }
+fn record_agrees(key: &[u8], f: &[u8], e: Edition, name: Name, position: usize) -> bool
+    requires { ⌜ (length (now key) ≡ 16) × (e ≡ rowOf (now f)) × (name ≡ nameIn (now f)) × (position + entryLength ≤ length (now f)) × (entryAt (now f) position .length ≤ maxPicture)
+        × (entryAt (now f) position .offset + (entryAt (now f) position .length + sealLength) ≤ length (now f)) ⌝ }
     ensures { λ b. ⌜ b ≡ agrees (now (key .entry)) (now (f .entry)) (recordPart (now (f .entry)) position) ⌝ }
 {
-    let e = entry_at(f, position);
+    let x = entry_at(f, position);
     let next = position + ENTRY_LENGTH;
-    let nonce = burst::nonce_of(burst_number, e.shot);
+    let start = x.offset as usize;
+    let end = start + (x.length as usize + SEAL_LENGTH as usize);
     let none: [u8; 0] = [];
-    let got = verify_part(
+    let got = burst::verify_part(
+        e,
         key,
-        f,
-        &nonce,
+        name,
+        x.shot,
         &f[position..next],
         &none,
-        e.offset as usize,
-        e.length as usize,
+        &f[start..end],
     );
     got.refusal == 0
 }
 
 // The verdict on the records of all entries, in order.
-fn verify_records(key: &[u8], f: &[u8], burst_number: u64, count: usize, start: usize) -> Verdict
-    requires { ⌜ (length (now key) ≡ 16) × (frontRules edition1 (now f) ≡ true) × («burst_number» ≡ burstNumberIn (now f)) × (count ≡ keptIn (now f)) × (start ≡ indexOffsetIn (now f)) ⌝ }
+fn verify_records(
+    key: &[u8],
+    f: &[u8],
+    e: Edition,
+    name: Name,
+    count: usize,
+    start: usize,
+) -> Verdict
+    requires { ⌜ (length (now key) ≡ 16) × (frontRules (now f) ≡ true) × (e ≡ rowOf (now f)) × (name ≡ nameIn (now f)) × (count ≡ keptIn (now f)) × (start ≡ indexOffsetIn (now f)) ⌝ }
     ensures { λ v. ⌜ differingOf v ≡ firstDiffering (now (key .entry)) (now (f .entry)) (recordParts count start (now (f .entry))) ⌝ }
 {
     let mut left = count;
     let mut position = start;
     while 0 < left {
-        if !record_agrees(key, f, burst_number, position) {
-            let e = entry_at(f, position);
-            let shot = e.shot;
+        if !record_agrees(key, f, e, name, position) {
+            let x = entry_at(f, position);
+            let shot = x.shot;
             return Verdict::Differs(shot);
         }
         position = position + ENTRY_LENGTH;
@@ -263,14 +279,14 @@ fn not_checked(refusal: u32, mark: u32) -> Checked
 }
 
 // Verifies the closing seal; header, then index, are its associated data.
-fn verify_closing(key: &[u8], f: &[u8], h: Header) -> Opened
-    requires { ⌜ (length (now key) ≡ 16) × (frontRules edition1 (now f) ≡ true) × (h ≡ headerIn (now f)) ⌝ }
-    ensures { λ r. ⌜ r ≡ openedAnswer (pick (agrees (now (key .entry)) (now (f .entry)) (closingPart (now (f .entry)))) 0 7) 0 (secretIn (now (key .entry)) (now (f .entry)) (closingPart (now (f .entry)))) ⌝ }
+fn verify_closing(key: &[u8], f: &[u8], e: Edition, name: Name, h: Header) -> Opened
+    requires { ⌜ (length (now key) ≡ 16) × (frontRules (now f) ≡ true) × (e ≡ rowOf (now f)) × (name ≡ nameIn (now f)) × (h ≡ headerIn (now f)) ⌝ }
+    ensures { λ r. ⌜ r ≡ answerIn (now (key .entry)) (now (f .entry)) (closingPart (now (f .entry))) ⌝ }
 {
+    let n = e.header as usize;
     let start = h.index as usize;
     let end = h.closing as usize;
-    let nonce = burst::nonce_of(h.burst_number, Shot(0));
-    verify_part(key, f, &nonce, &f[..32], &f[start..end], end, 0)
+    burst::verify_part(e, key, name, Shot(0), &f[..n], &f[start..end], &f[end..])
 }
 
 pub fn check(key: &[u8], f: &[u8]) -> Checked
@@ -283,11 +299,13 @@ pub fn check(key: &[u8], f: &[u8]) -> Checked
         return not_checked(FRONT_BROKEN, 0);
     }
     let h = header_in(f);
-    let closing = verify_closing(key, f, h);
+    let e = edition_in(f);
+    let name = name_in(f);
+    let closing = verify_closing(key, f, e, name, h);
     if closing.refusal != 0 {
         return not_checked(TAG_DIFFERS, 0);
     }
-    let verdict = verify_records(key, f, h.burst_number, h.kept.0 as usize, h.index as usize);
+    let verdict = verify_records(key, f, e, name, h.kept.0 as usize, h.index as usize);
     match verdict {
         Verdict::Differs(shot) => not_checked(TAG_DIFFERS, shot.0 as u32),
         Verdict::Agree => {
@@ -314,7 +332,6 @@ pub fn locate(key: &[u8], f: &[u8], place: Place) -> Located
         return Located {
             refusal: c.refusal,
             mark: c.mark,
-            burst_number: 0,
             position: 0,
         };
     }
@@ -322,7 +339,6 @@ pub fn locate(key: &[u8], f: &[u8], place: Place) -> Located
         return Located {
             refusal: NO_SUCH_PLACE,
             mark: 0,
-            burst_number: 0,
             position: 0,
         };
     }
@@ -330,8 +346,7 @@ pub fn locate(key: &[u8], f: &[u8], place: Place) -> Located
     Located {
         refusal: 0,
         mark: 0,
-        burst_number: c.burst_number,
-        position: h.index as usize + 12 * (place.0 as usize),
+        position: h.index as usize + burst::index_length(place),
     }
 }
 
@@ -347,34 +362,29 @@ fn not_fetched(refusal: u32, mark: u32) -> Fetched
     }
 }
 
-// Opens the record of the entry e, which stands at a position of the file.
-fn open_record(
-    key: &[u8],
-    f: &[u8],
-    burst_number: u64,
-    position: usize,
-    e: Entry,
-    out: &mut [u8],
-) -> Fetched
-    requires { ⌜ (length (now key) ≡ 16) × («burst_number» ≡ burstNumberIn (now f)) × (e ≡ entryAt (now f) position) × (agrees (now key) (now f) (recordPart (now f) position) ≡ true)
-        × (position + 12 ≤ length (now f)) × (e .offset + (e .length + 32) ≤ length (now f)) × (e .length ≤ 1048576) × (e .length ≤ length (now out)) ⌝ }
+// Opens the record of the entry x, which stands at a position of the file.
+fn open_record(key: &[u8], f: &[u8], position: usize, x: Entry, out: &mut [u8]) -> Fetched
+    requires { ⌜ (length (now key) ≡ 16) × (fieldsLength ≤ length (now f)) × (x ≡ entryAt (now f) position) × (agrees (now key) (now f) (recordPart (now f) position) ≡ true)
+        × (position + entryLength ≤ length (now f)) × (x .offset + (x .length + sealLength) ≤ length (now f)) × (x .length ≤ maxPicture) × (x .length ≤ length (now out)) ⌝ }
     ensures { λ r. ⌜
-        (r ≡ record { refusal = 0; mark = 0; shot = e .shot; stamp = secretIn (now (key .entry)) (now (f .entry)) (recordPart (now (f .entry)) position); length = e .length }) ×
-        (now (out .exit) ≡ putBytes (now (out .entry)) 0 (messageIn (now (key .entry)) (now (f .entry)) (recordPart (now (f .entry)) position))) ⌝ }
+        (r ≡ record { refusal = 0; mark = 0; shot = x .shot; stamp = markIn (now (key .entry)) (now (f .entry)) (recordPart (now (f .entry)) position); length = x .length }) ×
+        (now (out .exit) ≡ putBytes (now (out .entry)) 0 (bodyIn (now (key .entry)) (now (f .entry)) (recordPart (now (f .entry)) position))) ⌝ }
 {
-    let shot = e.shot;
-    let nonce = burst::nonce_of(burst_number, shot);
+    let e = edition_in(f);
+    let name = name_in(f);
+    let shot = x.shot;
     let next = position + ENTRY_LENGTH;
-    let at = e.offset as usize;
-    let end = at + (e.length as usize + 32);
+    let start = x.offset as usize;
+    let end = start + (x.length as usize + SEAL_LENGTH as usize);
     let none: [u8; 0] = [];
-    let got = icepole::open_message(
-        Variant::Icepole128,
+    let got = burst::open_part(
+        e,
         key,
-        &nonce,
+        name,
+        shot,
         &f[position..next],
         &none,
-        &f[at..end],
+        &f[start..end],
         out,
     );
     let stamp = got.secret;
@@ -383,7 +393,7 @@ fn open_record(
         mark: 0,
         shot,
         stamp,
-        length: e.length,
+        length: x.length,
     }
 }
 
@@ -396,11 +406,11 @@ pub fn fetch(key: &[u8], f: &[u8], place: Place, out: &mut [u8]) -> Fetched
     if l.refusal != 0 {
         return not_fetched(l.refusal, l.mark);
     }
-    let e = entry_at(f, l.position);
-    if out.len() < e.length as usize {
+    let x = entry_at(f, l.position);
+    if out.len() < x.length as usize {
         return not_fetched(OUTPUT_TOO_SHORT, 0);
     }
-    open_record(key, f, l.burst_number, l.position, e, out)
+    open_record(key, f, l.position, x, out)
 }
 
 // The sealed record of a place, as that part of the file; empty where the call is refused. The file comes first, since the part is lent from it.
@@ -423,8 +433,8 @@ pub fn record<'a>(
     if l.refusal != 0 {
         return &f[..0];
     }
-    let e = entry_at(f, l.position);
-    let at = e.offset as usize;
-    let end = at + (e.length as usize + 32);
-    &f[at..end]
+    let x = entry_at(f, l.position);
+    let start = x.offset as usize;
+    let end = start + (x.length as usize + SEAL_LENGTH as usize);
+    &f[start..end]
 }

@@ -1,17 +1,17 @@
 -- A begin and a script, performed: what `replay` leaves is what the plain burst says.
 -- Assumes nothing.
-use mathlib.Core.List.{List, [], _∷_, _++_}
+use mathlib.Core.List.{List, _++_}
 use mathlib.Core.Path.{_≡_, refl, sym, ap, ap₂, _∙_}
-use Prim.Native.Nat.{ℕ, suc, _+_, _-_, _*_, _/_, _≤_, _<_}
+use Prim.Native.Nat.{ℕ, _+_, _-_, _/_, _≤_, _<_}
 use native.Mathlib.Omega.{arith}
 use lib.ListN.{length, take, drop}
 use Rattle.bytes_le.specs.Bytes.{Bytes, putBytes, le}
 use Rattle.bytes_le.proofs.Laws.{put-part, length-put}
-use Rattle.burst.specs.declared.Recorder.{Recorder}
 use Rattle.burst.specs.declared.Begun.{Begun}
-use Rattle.burst.specs.Layout.{edition1, Identity}
+use Rattle.burst.specs.Layout.{Identity}
 use Rattle.burst.specs.Plain.{Call, CallList, Answer, plainOf, plainAnswers, totalOf}
 use Rattle.burst.specs.Recorder.{beginAnswer, beginBuffer}
+use Rattle.trace.specs.Agreement.{editionFor}
 use Rattle.trace.specs.Trace.{answersFrom, bufferFrom, runAnswers, runBuffer}
 use Rattle.trace.proofs.Agreement.{agreement}
 use Rattle.replay.specs.Replay.{scriptCalls, answersBytes, listOf, Replayed}
@@ -69,17 +69,17 @@ module _ (key : Bytes) (i : Identity) (script b a : Bytes) (h : 8 ≤ length a) 
       let la₂ : length a₂ ≡ length a = ap length e₂ ∙ length-put a₁ i₁ (le 4 0) (omega arith) ∙ la₁ in
       let y : ys ≡ putBytes (drop 8 a₂) 0 (answersBytes rest) = ey ∙ ap₂ (λ (x : Bytes) (ts : List Answer). putBytes x 0 (answersBytes ts)) et er in
       let bf : b₂ ≡ runBuffer l b = eb₂ ∙ ap₂ (λ (x : Begun) (c : Bytes). bufferFrom (x .recorder) c calls) eg eb₁ ∙ buffer-is in
-      let an : take 8 a₂ ++ (ys ++ drop u (drop 8 a₂)) ≡ putBytes a 0 (answersBytes (plainAnswers edition1 l)) =
+      let an : take 8 a₂ ++ (ys ++ drop u (drop 8 a₂)) ≡ putBytes a 0 (answersBytes (plainAnswers (editionFor l) l)) =
       ap (λ (x : Bytes). take 8 a₂ ++ (x ++ drop u (drop 8 a₂))) y
       ∙ put-part a₂ 8 (answersBytes rest) u (omega arith) eu
       ∙ answer-put a a₁ a₂ (answersBytes rest) 0 i₁ (g .refusal) 0 ei e₁ e₂ (omega arith)
       ∙ ap (λ (x : Begun). putBytes a 0 ((le 4 (x .refusal) ++ le 4 0) ++ answersBytes rest)) eg
       ∙ ap (putBytes a 0) (sym first-bytes) ∙ ap (λ (ts : List Answer). putBytes a 0 (answersBytes ts)) (w .answers) in
-      let ct : 1 + n ≡ length (plainAnswers edition1 l) = ap (λ (k : ℕ). 1 + k) en ∙ sym run-length ∙ ap length (w .answers) in
+      let ct : 1 + n ≡ length (plainAnswers (editionFor l) l) = ap (λ (k : ℕ). 1 + k) en ∙ sym run-length ∙ ap length (w .answers) in
       record {
         nothing = λ k. absurd (omega arith);
         count = λ _. ct;
         answers = λ _. an;
         buffer = λ _. bf;
-        file = λ _ q. ap (take (totalOf edition1 (plainOf edition1 l))) bf ∙ w .file q;
+        file = λ _ q. ap (take (totalOf (editionFor l) (plainOf (editionFor l) l))) bf ∙ w .file q;
       }

@@ -1,6 +1,6 @@
 -- A list of calls as bytes, and what performing it leaves: demand 3's first sentence about running code.
 -- Assumes nothing.
-use mathlib.Core.Bool.{Bool, true, false}
+use mathlib.Core.Bool.{true, false}
 use mathlib.Core.List.{List, [], _∷_, _++_}
 use mathlib.Core.Option.{Option, some, none}
 use mathlib.Core.Path.{_≡_}
@@ -10,10 +10,10 @@ use lib.ListN.{length, take, drop}
 use Rattle.bytes_le.specs.Bytes.{Bytes, putBytes, le, leAt}
 use Rattle.icepole.specs.Sealing.{pick}
 use Rattle.burst.specs.declared.Recorder.{Recorder}
-use Rattle.burst.specs.Layout.{edition1, Identity}
+use Rattle.burst.specs.Layout.{Identity}
 use Rattle.burst.specs.Plain.{byValue, Call, keepShot, dropShot, closeBurst, CallList, Answer, plainOf, plainAnswers, totalOf, fileOf}
 use Rattle.trace.specs.Trace.{nextRecorder, nextBuffer, answerTo, runBuffer}
-use Rattle.trace.specs.Agreement.{Reached}
+use Rattle.trace.specs.Agreement.{Reached, editionFor}
 use Rattle.replay.specs.declared.Step.{Step}
 
 -- ---- a script: the calls one after another
@@ -76,7 +76,7 @@ listOf key i buffer answers script = record { key = key; identity = i; bufferLen
 -- what is left of the answers a, of the buffer b and of the count n. Without room for begin's answer nothing is done. Otherwise the answers are those of the plain burst, begin's first, and after an accepted close the front of the buffer is its file
 pub record Replayed (l : CallList) (a a′ b b′ : Bytes) (n : ℕ) : Type 0 where
   pub nothing : length a < 8 → (n ≡ 0) × (a′ ≡ a) × (b′ ≡ b)
-  pub count : 8 ≤ length a → n ≡ length (plainAnswers edition1 l)
-  pub answers : 8 ≤ length a → a′ ≡ putBytes a 0 (answersBytes (plainAnswers edition1 l))
+  pub count : 8 ≤ length a → n ≡ length (plainAnswers (editionFor l) l)
+  pub answers : 8 ≤ length a → a′ ≡ putBytes a 0 (answersBytes (plainAnswers (editionFor l) l))
   pub buffer : 8 ≤ length a → b′ ≡ runBuffer l b
-  pub file : 8 ≤ length a → Reached l → take (totalOf edition1 (plainOf edition1 l)) b′ ≡ fileOf edition1 (plainOf edition1 l)
+  pub file : 8 ≤ length a → Reached (editionFor l) l → take (totalOf (editionFor l) (plainOf (editionFor l) l)) b′ ≡ fileOf (editionFor l) (plainOf (editionFor l) l)

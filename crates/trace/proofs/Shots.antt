@@ -10,12 +10,14 @@ use borrow.Author.Tests.{eq-eqb}
 use lib.ListN.{length, length-append}
 use Rattle.bytes_le.specs.Bytes.{Bytes}
 use Rattle.burst.specs.declared.Entry.{Entry}
+use Rattle.burst.specs.declared.Edition.{Edition}
+use Rattle.burst.specs.declared.Name.{Name}
 use Rattle.burst.specs.Layout.{Identity, entryBytes, recordBytes, closingSeal}
 use Rattle.burst.specs.Index.{entryOf, indexRules, bytesOfEntry, indexBytes}
 use Rattle.burst.specs.Plain.{Shot, kept, gap, pictures, gaps, usedBy, records, index}
 use Rattle.burst.proofs.Rules.{Obeys, obeyed, index-end, index-next}
 use Rattle.burst.proofs.Puts.{length-entry}
-use Rattle.burst.proofs.Sealer.{length-sealed128}
+use Rattle.burst.proofs.Parts.{length-part}
 
 -- the recorder's entries of xs
 abbrev pub entries : ℕ → ℕ → List Shot → List Entry
@@ -64,17 +66,17 @@ entries-append n at (gap ∷ xs) ys =
     let e : n + 1 + length xs ≡ n + suc (length xs) = omega arith in
     entries-append (n + 1) at xs ys ∙ ap (λ (k : ℕ). entries (n + 1) at xs ++ entries k (usedBy at xs) ys) e
 
-pub records-append : (key : Bytes) (number n at : ℕ) (xs ys : List Shot)
-    → records key number n at (xs ++ ys) ≡ records key number n at xs ++ records key number (n + length xs) (usedBy at xs) ys
-records-append key number n at [] ys = ap (λ (k : ℕ). records key number k at ys) (omega arith)
-records-append key number n at (kept s p ∷ xs) ys =
-    let e : n + 1 + length xs ≡ n + suc (length xs) = omega arith in
-    ap (λ (l : Bytes). recordBytes key number n at s p ++ l) (records-append key number (n + 1) (at + length p + 32) xs ys
-    ∙ ap (λ (k : ℕ). records key number (n + 1) (at + length p + 32) xs ++ records key number k (usedBy (at + length p + 32) xs) ys) e)
-    ∙ sym (append-assoc (recordBytes key number n at s p) _ _)
-records-append key number n at (gap ∷ xs) ys =
-    let e : n + 1 + length xs ≡ n + suc (length xs) = omega arith in
-    records-append key number (n + 1) at xs ys ∙ ap (λ (k : ℕ). records key number (n + 1) at xs ++ records key number k (usedBy at xs) ys) e
+pub records-append : (e : Edition) (key : Bytes) (name : Name) (n at : ℕ) (xs ys : List Shot)
+    → records e key name n at (xs ++ ys) ≡ records e key name n at xs ++ records e key name (n + length xs) (usedBy at xs) ys
+records-append e key name n at [] ys = ap (λ (k : ℕ). records e key name k at ys) (omega arith)
+records-append e key name n at (kept s p ∷ xs) ys =
+    let k₁ : n + 1 + length xs ≡ n + suc (length xs) = omega arith in
+    ap (λ (l : Bytes). recordBytes e key name n at s p ++ l) (records-append e key name (n + 1) (at + length p + 32) xs ys
+    ∙ ap (λ (k : ℕ). records e key name (n + 1) (at + length p + 32) xs ++ records e key name k (usedBy (at + length p + 32) xs) ys) k₁)
+    ∙ sym (append-assoc (recordBytes e key name n at s p) _ _)
+records-append e key name n at (gap ∷ xs) ys =
+    let k₁ : n + 1 + length xs ≡ n + suc (length xs) = omega arith in
+    records-append e key name (n + 1) at xs ys ∙ ap (λ (k : ℕ). records e key name (n + 1) at xs ++ records e key name k (usedBy at xs) ys) k₁
 
 pub index-entries : (n at : ℕ) (xs : List Shot) → indexBytes (entries n at xs) ≡ index n at xs
 unfolding indexBytes bytesOfEntry
@@ -107,18 +109,18 @@ used-most at [] v = omega arith
 used-most at (kept s p ∷ xs) v = let h = used-most (at + length p + 32) xs (v .1) in let g = v .0 .2 in omega arith
 used-most at (gap ∷ xs) v = let h = used-most at xs v in omega arith
 
-pub length-record : (key : Bytes) (number n at : ℕ) (s p : Bytes) → length s ≡ 16 → length (recordBytes key number n at s p) ≡ length p + 32
+pub length-record : (e : Edition) (key : Bytes) (name : Name) (n at : ℕ) (s p : Bytes) → length s ≡ 16 → length (recordBytes e key name n at s p) ≡ length p + 32
 unfolding recordBytes
-length-record key number n at s p hs = length-sealed128 _ _ s _ p hs
+length-record e key name n at s p hs = length-part e key name n s _ p hs
 
-pub length-records : (key : Bytes) (number n at : ℕ) (xs : List Shot) → Valid xs → at + length (records key number n at xs) ≡ usedBy at xs
-length-records key number n at [] v = add-zero at
-length-records key number n at (kept s p ∷ xs) v =
-    let h = length-records key number (n + 1) (at + length p + 32) xs (v .1) in
-    let g = length-record key number n at s p (v .0 .0) in
+pub length-records : (e : Edition) (key : Bytes) (name : Name) (n at : ℕ) (xs : List Shot) → Valid xs → at + length (records e key name n at xs) ≡ usedBy at xs
+length-records e key name n at [] v = add-zero at
+length-records e key name n at (kept s p ∷ xs) v =
+    let h = length-records e key name (n + 1) (at + length p + 32) xs (v .1) in
+    let g = length-record e key name n at s p (v .0 .0) in
     simp length-append (omega arith)
-length-records key number n at (gap ∷ xs) v = length-records key number (n + 1) at xs v
+length-records e key name n at (gap ∷ xs) v = length-records e key name (n + 1) at xs v
 
-pub length-closing : (key : Bytes) (i : Identity) (header index : Bytes) → length (i .siteMark) ≡ 16 → length (closingSeal key i header index) ≡ 0 + 32
+pub length-closing : (e : Edition) (key : Bytes) (i : Identity) (header index : Bytes) → length (i .siteMark) ≡ 16 → length (closingSeal e key i header index) ≡ 0 + 32
 unfolding closingSeal
-length-closing key i header index h = length-sealed128 _ _ (i .siteMark) _ [] h
+length-closing e key i header index h = length-part e key (i .name) 0 (i .siteMark) _ [] h

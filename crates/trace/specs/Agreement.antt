@@ -2,21 +2,25 @@
 -- Assumes nothing.
 use mathlib.Core.Bool.{true}
 use mathlib.Core.Path.{_≡_}
-use Prim.Native.Nat.{ℕ}
 use lib.ListN.{length, take}
 use Rattle.bytes_le.specs.Bytes.{Bytes}
-use Rattle.burst.specs.Layout.{edition1}
+use Rattle.burst.specs.declared.Edition.{Edition}
+use Rattle.burst.specs.Editions.{written}
 use Rattle.burst.specs.Plain.{CallList, plainOf, plainAnswers, totalOf, fileOf, beginRefusal}
 use Rattle.trace.specs.Trace.{runAnswers, runBuffer}
 
--- the list has an accepted close: it was begun, and its plain burst is closed
-pub record Reached (l : CallList) : Type 0 where
-  pub begun : beginRefusal edition1 l ≡ 0
-  pub closed : plainOf edition1 l .closed ≡ true
+-- the list, as one of edition e, has an accepted close: it was begun, and its plain burst is closed
+pub record Reached (e : Edition) (l : CallList) : Type 0 where
+  pub begun : beginRefusal e l ≡ 0
+  pub closed : plainOf e l .closed ≡ true
 
-pub record Agrees (l : CallList) (b : Bytes) : Type 0 where
-  pub answers : runAnswers l b ≡ plainAnswers edition1 l
-  pub file : Reached l → take (totalOf edition1 (plainOf edition1 l)) (runBuffer l b) ≡ fileOf edition1 (plainOf edition1 l)
+pub record Agrees (e : Edition) (l : CallList) (b : Bytes) : Type 0 where
+  pub answers : runAnswers l b ≡ plainAnswers e l
+  pub file : Reached e l → take (totalOf e (plainOf e l)) (runBuffer l b) ≡ fileOf e (plainOf e l)
+
+-- the edition that the recorder makes of a list
+abbrev pub editionFor : CallList → Edition
+editionFor l = written (length (l .key))
 
 abbrev pub Agreement : Type 0
-Agreement = (l : CallList) (b : Bytes) → length b ≡ l .bufferLength → Agrees l b
+Agreement = (l : CallList) (b : Bytes) → length b ≡ l .bufferLength → Agrees (editionFor l) l b

@@ -1,6 +1,7 @@
 -- `burst::begin_number` meets its contract.
 -- Assumes nothing.
 use native.Mathlib.Omega.{arith}
+use borrow.Author.Needs.{needs}
 use Rattle.burst.proofs.Numbers.{begin-1, begin-3, begin-11, begin-0}
 use Rattle.burst.proofs.begin_number.Statement.{statement}
 use Rattle.burst.proofs.begin_number.Tie as tie
@@ -9,7 +10,9 @@ pub begin-number-spec : {M : Type 1} → statement M
 begin-number-spec =
     tie.close
     (tie.spec
-    (λ c. begin-1 _ _ _ (c .if1 .taken))
-    (λ c. begin-3 _ _ _ (omega arith) (c .if2 .taken))
-    (λ c. begin-11 _ _ _ (omega arith) (omega arith) (omega arith))
-    (λ c. begin-0 _ _ _ (omega arith) (omega arith) (omega arith)))
+    (λ c. begin-1 _ _ _ _ (c .if1 .taken))
+    (λ c. begin-3 _ _ _ _ (omega arith) (c .if2 .taken))
+    (λ c. let k = c .before .before .before .pre in omega (arith, k))
+    (λ c. search needs)
+    (λ c. begin-11 _ _ _ _ (omega arith) (omega arith) (omega arith))
+    (λ c. begin-0 _ _ _ _ (omega arith) (omega arith) (omega arith)))

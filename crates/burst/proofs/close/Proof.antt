@@ -1,7 +1,7 @@
 -- `burst::close` meets its contract.
 -- Assumes nothing.
 use mathlib.Core.List.{_++_}
-use mathlib.Core.Path.{_≡_, refl, sym, ap, ap₂, _∙_}
+use mathlib.Core.Path.{sym, ap, ap₂, _∙_}
 use Prim.Native.Nat.{ℕ, _+_, _*_, _≤_}
 use native.Mathlib.Omega.{arith}
 use borrow.Author.Needs.{needs}
@@ -9,89 +9,97 @@ use lib.ListN.{length, take}
 use lib.Seq.{length-take-le}
 use Rattle.bytes_le.specs.Bytes.{Bytes, putBytes}
 use Rattle.burst.specs.declared.Closed.{Closed}
-use Rattle.burst.specs.Layout.{closingSeal}
-use Rattle.burst.specs.Recorder.{recorderHeader, recorderIndex, recorderSeal, afterClose}
-use Rattle.burst.proofs.Rules.{sounds}
+use Rattle.burst.specs.Editions.{Known}
+use Rattle.burst.specs.Parts.{sealLength}
+use Rattle.burst.specs.Layout.{entryLength, closingSeal}
+use Rattle.burst.specs.Recorder.{identityOf, afterClose}
+use Rattle.burst.proofs.Rules.{Sound, sounds}
 use Rattle.burst.proofs.Numbers.{closes}
-use Rattle.burst.proofs.Puts.{length-recorder-header}
 use Rattle.burst.proofs.Answers.{close-refused, close-done}
 use Rattle.burst.proofs.close.Statement.{statement}
 use Rattle.burst.proofs.close.Tie as tie
 
+-- what is known of row, recorder and buffer once no number stands against the call
+record Good (c : tie.Else1) : Type 0 where
+  pub known : Known (c .before .before .edition-of .result)
+  pub sound : Sound (c .before .before .edition-of .result) (c .before .before .before .before .args .r)
+  pub room : c .before .before .before .before .args .r .used + entryLength * c .before .before .before .before .args .r .kept .0 + sealLength ≤ length (c .before .before .before .before .args .buffer .now)
+
+good : (c : tie.Else1) → Good c
+good c =
+    let w = closes _ _ _ _ (sym (c .before .close-number .ensures) ∙ c .if1 .left) in
+    record { known = c .before .before .edition-of .ensures .1; sound = sounds _ _ (w .0); room = w .1 }
+
 returns : tie.Need-returns
-returns c = close-refused (c .before .before .before .args .r) (c .before .before .before .args .buffer .now) _ (c .before .close-number .ensures) (c .if1 .taken)
+returns c = close-refused (c .before .before .before .before .args .r) _ (c .before .before .edition-of .ensures .0) (c .before .before .before .before .args .buffer .now) _ (c .before .close-number .ensures) (c .if1 .taken)
+
+close-number-requires : tie.Need-close-number-requires
+close-number-requires c κs = c .edition-of .ensures .1
 
 header-of-requires : tie.Need-header-of-requires
-header-of-requires c κs = let w = closes _ _ _ _ (sym (c .before .close-number .ensures) ∙ c .if1 .left) in let g = sounds _ (w .0) in omega (arith, g)
+header-of-requires c κs = let g = good c in (g .known, omega (arith, g), omega (arith, g))
 
 index-of-requires : tie.Need-index-of-requires
-index-of-requires c κs = let w = closes _ _ _ _ (sym (c .before .before .close-number .ensures) ∙ c .before .if1 .left) in let g = sounds _ (w .0) in omega (arith, g)
+index-of-requires c κs = let g = good (c .before) in omega (arith, g)
+
+array-share-prefix-header : tie.Need-array-share-prefix-header
+array-share-prefix-header c = let g = good (c .before .before .before .before) in omega (arith, g, c .before .before .before .header-of .ensures .0)
+
+slice-aggregate-put-end : tie.Need-slice-aggregate-put-end
+slice-aggregate-put-end c =
+    let g = good (c .before .before .before .before .before) in sym (length-take-le (c .before .before .before .before .before .before .before .edition-of .result .header) (c .before .before .before .before .header-of .result) (omega (arith, g, c .before .before .before .before .header-of .ensures .0)))
 
 array-share-prefix-index : tie.Need-array-share-prefix-index
-array-share-prefix-index c =
-    let w = closes _ _ _ _ (sym (c .before .before .before .before .before .close-number .ensures) ∙ c .before .before .before .before .if1 .left) in
-    let g = sounds _ (w .0) in
-    let n = c .before .index-length .ensures in
-    omega (arith, g, n, c .before .before .index-of .ensures .0)
+array-share-prefix-index c = let g = good (c .before .before .before .before .before) in omega (arith, g, c .before .before .index-length .ensures, c .before .before .before .index-of .ensures .0)
 
 slice-aggregate-put-end-2 : tie.Need-slice-aggregate-put-end-2
 slice-aggregate-put-end-2 c =
-    let w = closes _ _ _ _ (sym (c .before .before .before .before .before .before .close-number .ensures) ∙ c .before .before .before .before .before .if1 .left) in
-    let g = sounds _ (w .0) in
-    let n = c .before .before .index-length .ensures in
-    sym (length-take-le (c .before .before .index-length .result) (c .before .before .before .index-of .result) (omega (arith, g, n, c .before .before .before .index-of .ensures .0)))
+    let g = good (c .before .before .before .before .before .before) in
+    sym (length-take-le (c .before .before .before .index-length .result) (c .before .before .before .before .index-of .result) (omega (arith, g, c .before .before .before .index-length .ensures, c .before .before .before .before .index-of .ensures .0)))
 
 put-end-requires : tie.Need-put-end-requires
 put-end-requires c κs =
-    let w = closes _ _ _ _ (sym (c .before .before .before .before .before .before .before .close-number .ensures) ∙ c .before .before .before .before .before .before .if1 .left) in
-    let g = sounds _ (w .0) in
-    let n = c .before .before .before .index-length .ensures in
-    let l = length-take-le (c .before .before .before .index-length .result) (c .before .before .before .before .index-of .result) (omega (arith, g, n, c .before .before .before .before .index-of .ensures .0)) in
-    (ap length (c .before .before .before .before .before .header-of .ensures) ∙ length-recorder-header (c .before .before .before .before .before .before .before .before .before .args .r), omega (arith, g, n, l), g .least, omega (arith, g, n, l, w))
-
-add-total : tie.Need-add-total
-add-total c =
-    let w = closes _ _ _ _ (sym (c .before .before .before .before .before .before .before .before .before .before .before .close-number .ensures) ∙ c .before .before .before .before .before .before .before .before .before .before .if1 .left) in
-    let g = sounds _ (w .0) in
-    let n = c .before .before .before .before .before .before .before .index-length .ensures in
-    omega (arith, g, n)
-
-add-total-2 : tie.Need-add-total-2
-add-total-2 c =
-    let w = closes _ _ _ _ (sym (c .before .before .before .before .before .before .before .before .before .before .before .close-number .ensures) ∙ c .before .before .before .before .before .before .before .before .before .before .if1 .left) in
-    let g = sounds _ (w .0) in
-    let n = c .before .before .before .before .before .before .before .index-length .ensures in
-    omega (arith, g, n)
+    let g = good (c .before .before .before .before .before .before .before) in
+    let n = c .before .before .before .before .index-length .ensures in
+    let l = length-take-le (c .before .before .before .before .index-length .result) (c .before .before .before .before .before .index-of .result) (omega (arith, g, n, c .before .before .before .before .before .index-of .ensures .0)) in
+    let m = length-take-le (c .before .before .before .before .before .before .before .before .before .edition-of .result .header) (c .before .before .before .before .before .before .header-of .result) (omega (arith, g, c .before .before .before .before .before .before .header-of .ensures .0)) in
+    (omega (arith, g, m), omega (arith, g, n, l), omega (arith, g, m), omega (arith, g, n, l))
 
 cast-total : tie.Need-cast-total
-cast-total c =
-    let w = closes _ _ _ _ (sym (c .before .before .before .before .before .before .before .before .before .before .close-number .ensures) ∙ c .before .before .before .before .before .before .before .before .before .if1 .left) in
-    let g = sounds _ (w .0) in
-    let n = c .before .before .before .before .before .before .index-length .ensures in
-    omega (arith, g, n)
+cast-total c = let g = good (c .before .before .before .before .before .before .before .before .before .before) in omega (arith, g, c .before .before .before .before .before .before .before .index-length .ensures)
+
+add-total : tie.Need-add-total
+add-total c = let g = good (c .before .before .before .before .before .before .before .before .before .before .before) in omega (arith, g, c .before .before .before .before .before .before .before .before .index-length .ensures)
+
+add-total-2 : tie.Need-add-total-2
+add-total-2 c = let g = good (c .before .before .before .before .before .before .before .before .before .before .before) in omega (arith, g, c .before .before .before .before .before .before .before .before .index-length .ensures)
 
 returns-2 : tie.Need-returns-2
-unfolding afterClose recorderSeal
+unfolding afterClose
 returns-2 c =
-    let r = c .before .before .before .before .before .before .before .before .before .before .before .before .before .args .r in
-    let b = c .before .before .before .before .before .before .before .before .before .before .before .before .before .args .buffer .now in
-    let n = c .before .before .before .before .before .before .before .index-length .ensures in
-    let p = close-done r b (sym (c .before .before .before .before .before .before .before .before .before .before .before .close-number .ensures) ∙ c .before .before .before .before .before .before .before .before .before .before .if1 .left) _
+    let r = c .before .before .before .before .before .before .before .before .before .before .before .before .before .before .before .args .r in
+    let b = c .before .before .before .before .before .before .before .before .before .before .before .before .before .before .before .args .buffer .now in
+    let n = c .before .before .before .before .before .before .before .before .index-length .ensures in
+    let e = c .before .before .before .before .before .before .before .before .before .before .before .before .before .edition-of .result in
+    let p = close-done r e (c .before .before .before .before .before .before .before .before .before .before .before .before .before .edition-of .ensures .0) b (sym (c .before .before .before .before .before .before .before .before .before .before .before .before .close-number .ensures) ∙ c .before .before .before .before .before .before .before .before .before .before .before .if1 .left) _
     (c .before .before .before .put-end .ensures
-    ∙ ap₂ (λ (h x : Bytes). putBytes (putBytes b 0 h) (r .used) (x ++ closingSeal (r .key) (record { burstNumber = r .«burst_number»; siteMark = r .«site_mark» }) h x))
-    (c .before .before .before .before .before .before .before .before .before .header-of .ensures) (ap (λ (k : ℕ). take k (c .before .before .before .before .before .before .before .before .index-of .result)) n ∙ c .before .before .before .before .before .before .before .before .index-of .ensures .1)) in
-    (ap (λ (k : ℕ). let y : Closed = record { refusal = 0; mark = 0; total = r .used + k + 32; recorder = afterClose r } in y) n ∙ p .0, p .1)
+    ∙ ap₂ (λ (h x : Bytes). putBytes (putBytes b 0 h) (r .used) (x ++ closingSeal e (r .key) (identityOf r) h x))
+    (c .before .before .before .before .before .before .before .before .before .before .header-of .ensures .1) (ap (λ (k : ℕ). take k (c .before .before .before .before .before .before .before .before .before .index-of .result)) n ∙ c .before .before .before .before .before .before .before .before .before .index-of .ensures .1)) in
+    (ap (λ (k : ℕ). let y : Closed = record { refusal = 0; mark = 0; total = r .used + k + sealLength; recorder = afterClose r } in y) n ∙ p .0, p .1)
 
 pub close-spec : {M : Type 1} → statement M
 close-spec =
     tie.close
     (tie.spec
-    (λ c κs. search needs)
+    (λ c. search needs)
+    close-number-requires
     returns
     header-of-requires
     index-of-requires
-    (λ c κs. search needs)
     (λ c. search needs)
+    (λ c. search needs)
+    array-share-prefix-header
+    slice-aggregate-put-end
     array-share-prefix-index
     slice-aggregate-put-end-2
     put-end-requires

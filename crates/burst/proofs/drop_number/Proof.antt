@@ -9,13 +9,17 @@ use Rattle.burst.proofs.drop_number.Statement.{statement}
 use Rattle.burst.proofs.drop_number.Tie as tie
 
 returns : tie.Need-returns
-returns c = drop-8 _ _ (sym (c .before .sound .ensures) ∙ not-true _ (c .if1 .taken))
+returns c = drop-8 _ _ _ (sym (c .before .sound .ensures) ∙ not-true _ (c .if1 .taken))
 
 returns-2 : tie.Need-returns-2
-returns-2 c = drop-9 _ _ (sym (c .before .before .before .sound .ensures) ∙ not-false _ (c .before .before .if1 .left)) (omega arith)
+returns-2 c = drop-9 _ _ _ (sym (c .before .before .before .before .sound .ensures) ∙ not-false _ (c .before .before .before .if1 .left)) (omega arith)
 
 returns-3 : tie.Need-returns-3
-returns-3 c = drop-0 _ _ (sym (c .before .before .before .sound .ensures) ∙ not-false _ (c .before .before .if1 .left)) (omega arith)
+returns-3 c = drop-0 _ _ _ (sym (c .before .before .before .before .sound .ensures) ∙ not-false _ (c .before .before .before .if1 .left)) (omega arith)
 
 pub drop-number-spec : {M : Type 1} → statement M
-drop-number-spec = tie.close (tie.spec (λ c κs. search needs) returns returns-2 returns-3)
+drop-number-spec = tie.close (tie.spec
+    (λ c κs. search needs)
+    returns
+    returns-2
+    returns-3)

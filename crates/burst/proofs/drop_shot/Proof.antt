@@ -9,15 +9,24 @@ use Rattle.burst.proofs.Answers.{drop-refused, drop-done}
 use Rattle.burst.proofs.drop_shot.Statement.{statement}
 use Rattle.burst.proofs.drop_shot.Tie as tie
 
-returns : tie.Need-returns
-returns c = c .not-shot .ensures ∙ drop-refused (c .before .before .before .args .r) _ (c .before .before .drop-number .ensures) (c .before .if1 .taken)
+drop-number-requires : tie.Need-drop-number-requires
+drop-number-requires c κs = c .edition-of .ensures .1
 
-add-t6 : tie.Need-add-t6
-add-t6 c = let w = drops _ _ (sym (c .before .before .drop-number .ensures) ∙ c .before .if1 .left) in omega (arith, w)
+returns : tie.Need-returns
+returns c = c .not-shot .ensures ∙ drop-refused (c .before .before .before .before .args .r) _ (c .before .before .before .edition-of .ensures .0) _ (c .before .before .drop-number .ensures) (c .before .if1 .taken)
+
+add-t7 : tie.Need-add-t7
+add-t7 c = let w = drops _ _ _ (sym (c .before .before .drop-number .ensures) ∙ c .before .if1 .left) in let k = c .before .before .before .edition-of .ensures .1 in omega (arith, w, k)
 
 returns-2 : tie.Need-returns-2
 unfolding afterDrop
-returns-2 c = drop-done (c .before .before .before .args .r) (sym (c .before .before .drop-number .ensures) ∙ c .before .if1 .left)
+returns-2 c = drop-done (c .before .before .before .before .args .r) _ (c .before .before .before .edition-of .ensures .0) (sym (c .before .before .drop-number .ensures) ∙ c .before .if1 .left)
 
 pub drop-shot-spec : {M : Type 1} → statement M
-drop-shot-spec = tie.close (tie.spec (λ c κs. search needs) (λ c κs. search needs) returns add-t6 returns-2)
+drop-shot-spec = tie.close (tie.spec
+    (λ c κs. search needs)
+    drop-number-requires
+    (λ c κs. search needs)
+    returns
+    add-t7
+    returns-2)

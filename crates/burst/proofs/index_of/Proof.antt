@@ -5,6 +5,8 @@ use Prim.Native.Nat.{ℕ, _-_, _*_, _≤_}
 use native.Mathlib.Omega.{arith}
 use borrow.Author.Needs.{needs}
 use lib.ListN.{length, take, getD, length-map}
+use Rattle.burst.specs.Editions.{maxEntries}
+use Rattle.burst.specs.Layout.{maxIndex}
 use Rattle.burst.specs.Index.{entryOf, indexBytes}
 use Rattle.burst.specs.Recorder.{recorderIndex}
 use Rattle.burst.proofs.Puts.{index-turn, length-entry-of}
@@ -12,7 +14,7 @@ use Rattle.burst.proofs.index_of.Statement.{statement}
 use Rattle.burst.proofs.index_of.Tie as tie
 
 abbrev Inv-loop : tie.InvT-loop
-Inv-loop r n x₀ i₀ at₀ x i at = (i ≤ n) × (at ≡ 12 * i) × (length x ≡ 720) × (take at x ≡ indexBytes (take i (r .entries)))
+Inv-loop r n x₀ i₀ at₀ x i at = (i ≤ n) × (at ≡ 12 * i) × (length x ≡ maxIndex) × (take at x ≡ indexBytes (take i (r .entries)))
 
 abbrev μ-loop : tie.MeasureT-loop
 μ-loop r n x₀ i₀ at₀ x i at = n - i
@@ -26,7 +28,7 @@ loop-again c =
     let s = c .before .before .before .before .before .before in
     let l = c .before .before .before .before .before .loop in
     let p = c .before .put-entry in
-    let z : length (s .args .t1 .entries) ≡ 60 = simp length-map at (s .good .0 .1 .1 .1 .1 .1 .1 .1 .1 .0 .1 .0 .1) in
+    let z : length (s .args .t1 .entries) ≡ maxEntries = simp length-map at (s .good .0 .1 .1 .1 .1 .1 .1 .1 .1 .0 .1 .0 .1) in
     let w = length-entry-of (getD (s .args .t1 .entries) (l .i) (entryOf 0 0 0)) in (
       omega arith,
       omega arith,

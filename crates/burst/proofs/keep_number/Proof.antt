@@ -9,27 +9,27 @@ use Rattle.burst.proofs.keep_number.Statement.{statement}
 use Rattle.burst.proofs.keep_number.Tie as tie
 
 returns : tie.Need-returns
-returns c = keep-8 _ _ _ _ _ _ _ (sym (c .before .sound .ensures) ∙ not-true _ (c .if1 .taken))
+returns c = keep-8 _ _ _ _ _ _ _ _ (sym (c .before .sound .ensures) ∙ not-true _ (c .if1 .taken))
 
 returns-2 : tie.Need-returns-2
-returns-2 c = keep-3 _ _ _ _ _ _ _ (sym (c .before .before .sound .ensures) ∙ not-false _ (c .before .if1 .left)) (c .if2 .taken)
+returns-2 c = keep-3 _ _ _ _ _ _ _ _ (sym (c .before .before .sound .ensures) ∙ not-false _ (c .before .if1 .left)) (c .if2 .taken)
 
 returns-3 : tie.Need-returns-3
-returns-3 c = keep-9 _ _ _ _ _ _ _ (sym (c .before .before .before .before .sound .ensures) ∙ not-false _ (c .before .before .before .if1 .left)) (omega arith) (omega arith)
+returns-3 c = keep-9 _ _ _ _ _ _ _ _ (sym (c .before .before .before .before .before .sound .ensures) ∙ not-false _ (c .before .before .before .before .if1 .left)) (omega arith) (omega arith)
 
 returns-4 : tie.Need-returns-4
-returns-4 c = keep-10 _ _ _ _ _ _ _ (sym (c .before .before .before .before .before .sound .ensures) ∙ not-false _ (c .before .before .before .before .if1 .left)) (omega arith) (omega arith) (omega arith)
+returns-4 c = keep-10 _ _ _ _ _ _ _ _ (sym (c .before .before .before .before .before .before .sound .ensures) ∙ not-false _ (c .before .before .before .before .before .if1 .left)) (omega arith) (omega arith) (omega arith)
 
 returns-5 : tie.Need-returns-5
-returns-5 c = keep-10′ _ _ _ _ _ _ _ (sym (c .before .before .before .before .before .before .sound .ensures) ∙ not-false _ (c .before .before .before .before .before .if1 .left)) (omega arith) (omega arith) (omega arith) (omega arith)
+returns-5 c = keep-10′ _ _ _ _ _ _ _ _ (sym (c .before .before .before .before .before .before .before .sound .ensures) ∙ not-false _ (c .before .before .before .before .before .before .if1 .left)) (omega arith) (omega arith) (omega arith) (omega arith)
 
 returns-6 : tie.Need-returns-6
 returns-6 c =
-    keep-11 _ _ _ _ _ _ _ (sym (c .before .before .before .before .before .before .before .before .before .sound .ensures) ∙ not-false _ (c .before .before .before .before .before .before .before .before .if1 .left)) (omega arith) (omega arith) (omega arith) (omega arith) (omega arith)
+    keep-11 _ _ _ _ _ _ _ _ (sym (c .before .before .before .before .before .before .before .before .before .before .sound .ensures) ∙ not-false _ (c .before .before .before .before .before .before .before .before .before .if1 .left)) (omega arith) (omega arith) (omega arith) (omega arith) (omega arith)
 
 returns-7 : tie.Need-returns-7
 returns-7 c =
-    keep-0 _ _ _ _ _ _ _ (sym (c .before .before .before .before .before .before .before .before .before .sound .ensures) ∙ not-false _ (c .before .before .before .before .before .before .before .before .if1 .left)) (omega arith) (omega arith) (omega arith) (omega arith) (omega arith)
+    keep-0 _ _ _ _ _ _ _ _ (sym (c .before .before .before .before .before .before .before .before .before .before .sound .ensures) ∙ not-false _ (c .before .before .before .before .before .before .before .before .before .if1 .left)) (omega arith) (omega arith) (omega arith) (omega arith) (omega arith)
 
 pub keep-number-spec : {M : Type 1} → statement M
 keep-number-spec =
@@ -42,6 +42,8 @@ keep-number-spec =
     returns-4
     (λ c. search needs)
     returns-5
+    (λ c. search needs)
+    (λ c. search needs)
     (λ c. search needs)
     (λ c. search needs)
     (λ c. search needs)

@@ -1,50 +1,60 @@
 -- `burst::put_record` meets its contract.
 -- Assumes nothing.
-use mathlib.Core.Path.{_≡_, refl, sym, ap, _∙_}
-use Prim.Native.Nat.{ℕ, _+_, _-_}
+use mathlib.Core.List.{[], _++_}
+use mathlib.Core.Path.{_≡_, refl, sym, ap, ap₂, _∙_}
+use Prim.Native.Nat.{_+_, _-_}
 use native.Mathlib.Omega.{arith}
 use borrow.Author.Needs.{needs}
 use lib.ListN.{length, take, drop, length-drop, length-map}
 use lib.Seq.{take-all}
+use Rattle.bytes_le.specs.Bytes.{putBytes}
 use Rattle.burst.specs.declared.Entry.{Entry}
-use Rattle.burst.specs.Layout.{nonceOf, entryBytes}
+use Rattle.burst.specs.declared.Name.{Name}
+use Rattle.burst.specs.Parts.{sealPart}
 use Rattle.burst.specs.Index.{bytesOfEntry}
-use Rattle.burst.proofs.Sealer.{record-at}
+use Rattle.burst.specs.Recorder.{nameOf}
+use Rattle.burst.proofs.Puts.{length-entry-of}
+use Rattle.burst.proofs.Parts.{record-at}
 use Rattle.burst.proofs.put_record.Statement.{statement}
 use Rattle.burst.proofs.put_record.Tie as tie
 
-slice-aggregate-seal : tie.Need-slice-aggregate-seal
-slice-aggregate-seal c = sym (simp length-map at (c .before .before .before .before .before .before .before .before .before .good .0 .1 .1 .0 .1 .0 .1))
+slice-aggregate-seal-part : tie.Need-slice-aggregate-seal-part
+slice-aggregate-seal-part c = sym (simp length-map at (c .before .before .before .before .before .before .before .before .good .1 .0 .1 .1 .0 .1 .0 .1))
+
+seal-part-requires : tie.Need-seal-part-requires
+seal-part-requires c κs =
+    let p = c .before .before .before .before .before .before .before .before .before .before .before .before .pre in
+    let hk : length (c .before .before .before .before .before .before .before .before .before .before .before .before .args .r .key) ≡ 16 = simp length-map at (c .before .before .before .before .before .before .before .before .before .before .before .before .good .1 .0 .1 .1 .0 .1 .0 .1) in
+    let l : length (c .before .before .before .before .before .before .before .entry-bytes .result) ≡ 12 = ap length (c .before .before .before .before .before .before .before .entry-bytes .ensures) ∙ length-entry-of _ in
+    (hk, p .1, omega (arith, l), p .2, omega (arith, p))
 
 returns : tie.Need-returns
 unfolding bytesOfEntry
 returns c =
-    let a = c .before .before .before .before .before .before .before .before .before .before .before .before .before .before .before .before .args in
+    let a = c .before .before .before .before .before .before .before .before .before .before .before .before .before .before .before .args in
+    let p = c .before .before .before .before .before .before .before .before .before .before .before .before .before .before .before .pre in
     let b = a .buffer .now in
-    let hk : length (a .r .key) ≡ 16 = simp length-map at (c .before .before .before .before .before .before .before .before .before .before .before .before .before .before .before .before .good .0 .1 .1 .0 .1 .0 .1) in
-    let e = c .before .before .before .before .before .before .before .before .before .before .before .before .next-entry .ensures in
-    record-at (a .r .key) _ (a .stamp .now) _ (a .picture .now) b (take (length b - a .r .used) (drop (a .r .used) b)) _ (a .r .used) (length b - a .r .used) (a .r .«burst_number») (a .r .taken .0 + 1)
-    (c .before .before .before .before .before .before .before .before .before .before .before .nonce-of .ensures ∙ ap (λ (x : Entry). nonceOf (a .r .«burst_number») (x .shot .0)) e)
-    (c .before .before .before .before .before .before .before .before .before .before .entry-bytes .ensures ∙ ap bytesOfEntry e) hk (c .before .before .before .before .before .before .before .before .before .before .before .before .before .before .before .before .pre .1) (c .before .before .before .before .before .before .before .before .before .before .before .before .before .before .before .before .pre .2) (c .before .before .before .before .before .before .before .before .before .before .before .before .before .before .before .before .pre .3)
-    (take-all (length b - a .r .used) (drop (a .r .used) b) (simp length-drop (omega arith))) refl
-    (c .before .before .seal .ensures .1)
+    let x₁ = c .before .before .before .before .before .before .before .before .before .before .before .next-entry .ensures in
+    record-at (a .e) (a .r .key) (nameOf (a .r)) (a .r .taken .0 + 1) (a .stamp .now) _ (a .picture .now) b (take (length b - a .r .used) (drop (a .r .used) b)) _ (a .r .used) (length b - a .r .used)
+    (c .before .before .before .before .before .before .before .before .before .before .entry-bytes .ensures ∙ ap bytesOfEntry x₁) (p .1) (p .3) (take-all (length b - a .r .used) (drop (a .r .used) b) (simp length-drop (omega arith))) refl
+    (c .before .before .seal-part .ensures
+    ∙ ap₂ (λ (n : Name) (x : Entry). putBytes (take (length b - a .r .used) (drop (a .r .used) b)) 0 (sealPart (a .e) (a .r .key) n (x .shot .0) (a .stamp .now) (c .before .before .before .before .before .before .before .before .before .before .entry-bytes .result ++ []) (a .picture .now))) (c .before .before .before .before .before .before .name-of .ensures) x₁)
 
 pub put-record-spec : {M : Type 1} → statement M
 put-record-spec =
     tie.close
     (tie.spec
     (λ c. search needs)
-    (λ c κs. search needs)
-    (λ c κs. search needs)
-    (λ c κs. search needs)
     (λ c. search needs)
-    slice-aggregate-seal
     (λ c. search needs)
+    (λ c. search needs)
+    slice-aggregate-seal-part
     (λ c. search needs)
     (λ c. search needs)
     (λ c. search needs)
     (λ c. search needs)
     (λ c. search needs)
-    (λ c κs. search needs)
+    (λ c. search needs)
+    seal-part-requires
     (λ c. search needs)
     returns)

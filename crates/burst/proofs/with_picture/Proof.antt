@@ -1,6 +1,5 @@
 -- `burst::with_picture` meets its contract.
 -- Assumes nothing.
-use mathlib.Core.Path.{_≡_, ap}
 use borrow.Author.Needs.{needs}
 use Rattle.burst.specs.Recorder.{afterKeep}
 use Rattle.burst.proofs.Answers.{kept-with}

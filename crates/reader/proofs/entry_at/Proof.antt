@@ -1,6 +1,5 @@
 -- `reader::entry_at` meets its contract.
 -- Assumes nothing.
-use mathlib.Core.Path.{_≡_, _∙_}
 use borrow.Author.Needs.{needs}
 use Rattle.reader.proofs.Fields.{entry-same}
 use Rattle.reader.proofs.entry_at.Statement.{statement}

@@ -1,15 +1,15 @@
 -- `reader::fetch` meets its contract.
 -- Assumes nothing.
-use mathlib.Core.Path.{_≡_, sym, ap, subst, _∙_}
-use Prim.Native.Nat.{ℕ, _+_, _*_}
+use mathlib.Core.Path.{ap, _∙_}
+use Prim.Native.Nat.{ℕ}
 use native.Mathlib.Omega.{arith}
 use borrow.Author.Needs.{needs}
-use Rattle.bytes_le.specs.Bytes.{Bytes, putBytes}
+use Rattle.bytes_le.specs.Bytes.{putBytes}
 use Rattle.burst.specs.declared.Entry.{Entry}
 use Rattle.reader.specs.declared.Fetched.{Fetched}
 use Rattle.reader.specs.Front.{entryAt, positionOf}
-use Rattle.reader.specs.Reader.{recordPart, agrees, secretIn, messageIn}
-use Rattle.reader.proofs.Answers.{located-number, located-mark, located-found, located-burst, located-position, fetch-refused, fetch-5, fetch-0}
+use Rattle.reader.specs.Reader.{recordPart, agrees, markIn, bodyIn}
+use Rattle.reader.proofs.Answers.{located-number, located-mark, located-found, located-position, fetch-refused, fetch-5, fetch-0}
 use Rattle.reader.proofs.fetch.Statement.{statement}
 use Rattle.reader.proofs.fetch.Tie as tie
 
@@ -44,7 +44,7 @@ open-record-requires c κs =
     let o = ap (λ (x : Entry). x .offset) e in
     let g = w .accepted .front in (
       w .accepted .key16,
-      located-burst _ _ _ _ (c .before .before .before .before .before .before .locate .ensures) (c .before .before .before .before .if1 .left),
+      omega (arith, g),
       c .before .before .before .entry-at .ensures,
       ap (λ (p : ℕ). agrees (a .key .now) (a .f .now) (recordPart (a .f .now) p)) i ∙ w .agrees,
       omega (arith, g, w .below, i),
@@ -64,22 +64,22 @@ returns-3 c =
     let n = ap (λ (x : Entry). x .length) e in
     let p = fetch-0 k f (a .place .0) (a .out .now) w (omega (arith, n, c .before .before .before .before .if2)) in (
       c .before .before .open-record .ensures .0
-          ∙ ap (λ (x : Entry). let y : Fetched = record { refusal = 0; mark = 0; shot = x .shot; stamp = secretIn k f (recordPart f (c .before .before .before .before .before .before .before .before .before .locate .result .position)); length = x .length } in y) e
-          ∙ ap (λ (j : ℕ). let y : Fetched = record { refusal = 0; mark = 0; shot = entryAt f (positionOf f (a .place .0)) .shot; stamp = secretIn k f (recordPart f j); length = entryAt f (positionOf f (a .place .0)) .length } in y) i
+          ∙ ap (λ (x : Entry). let y : Fetched = record { refusal = 0; mark = 0; shot = x .shot; stamp = markIn k f (recordPart f (c .before .before .before .before .before .before .before .before .before .locate .result .position)); length = x .length } in y) e
+          ∙ ap (λ (j : ℕ). let y : Fetched = record { refusal = 0; mark = 0; shot = entryAt f (positionOf f (a .place .0)) .shot; stamp = markIn k f (recordPart f j); length = entryAt f (positionOf f (a .place .0)) .length } in y) i
           ∙ p .0,
-      c .before .before .open-record .ensures .1 ∙ ap (λ (j : ℕ). putBytes (a .out .now) 0 (messageIn k f (recordPart f j))) i ∙ p .1,
+      c .before .before .open-record .ensures .1 ∙ ap (λ (j : ℕ). putBytes (a .out .now) 0 (bodyIn k f (recordPart f j))) i ∙ p .1,
     )
 
 pub fetch-spec : {M : Type 1} → statement M
 fetch-spec =
     tie.close
     (tie.spec
-    (λ c κs. search needs)
-    (λ c κs. search needs)
+    (λ c. search needs)
+    (λ c. search needs)
     returns
     entry-at-requires
     (λ c. search needs)
-    (λ c κs. search needs)
+    (λ c. search needs)
     returns-2
     open-record-requires
     (λ c. search needs)

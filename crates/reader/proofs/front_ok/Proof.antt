@@ -1,52 +1,74 @@
 -- `reader::front_ok` meets its contract: a rule that is broken refutes the test.
 -- Assumes nothing.
-use mathlib.Core.Path.{_≡_, _∙_}
+use mathlib.Core.Bool.{true}
+use mathlib.Core.Path.{_≡_, sym, _∙_}
 use native.Mathlib.Omega.{arith}
 use borrow.Author.Needs.{needs}
-use Rattle.burst.proofs.Rules.{refuted}
-use Rattle.reader.proofs.Rules.{front, reads, reads-is}
+use borrow.Author.Tests.{not-true, not-false}
+use Rattle.burst.proofs.Rules.{refuted, clash}
+use Rattle.reader.specs.Front.{frontRules}
+use Rattle.reader.proofs.Rules.{Reads, front, reads, reads-is}
 use Rattle.reader.proofs.front_ok.Statement.{statement}
 use Rattle.reader.proofs.front_ok.Tie as tie
+
+-- the rules, where all of them hold
+told : (c : tie.After-edition-in) → frontRules (c .before .before .before .before .args .f .now) ≡ true → Reads (c .before .before .before .before .args .f .now) (c .edition-in .result) (c .before .header-in .result)
+told c t = reads _ _ _ (c .before .header-in .ensures) (c .edition-in .ensures .0) (front _ t)
 
 returns : tie.Need-returns
 returns c = refuted _ (λ t. let w = front _ t in omega (arith, w, c .if1))
 
 returns-2 : tie.Need-returns-2
-returns-2 c = refuted _ (λ t. c .if2 .taken (reads _ _ (c .before .before .header-in .ensures) (front _ t) .edition))
+returns-2 c = refuted _ (λ t. let w = told (c .before .before) t in omega (arith, w, c .if2))
 
 returns-3 : tie.Need-returns-3
-returns-3 c = refuted _ (λ t. c .if3 .taken (reads _ _ (c .before .before .before .before .header-in .ensures) (front _ t) .pictures))
+returns-3 c = refuted _ (λ t. c .if3 .taken (told (c .before .before .before .before .before) t .edition))
 
 returns-4 : tie.Need-returns-4
-returns-4 c = refuted _ (λ t. let w = reads _ _ (c .before .before .before .before .before .before .header-in .ensures) (front _ t) in omega (arith, w, c .if4))
+returns-4 c = refuted _ (λ t. c .if4 .taken (told (c .before .before .before .before .before .before .before .before) t .pictures))
 
 returns-5 : tie.Need-returns-5
-returns-5 c = refuted _ (λ t. c .if5 .taken (reads _ _ (c .before .before .before .before .before .before .before .before .before .before .header-in .ensures) (front _ t) .counts))
+returns-5 c = refuted _ (λ t. let w = told (c .before .before .before .before .before .before .before .before .before .before .before) t in omega (arith, w, c .if5))
 
 returns-6 : tie.Need-returns-6
-returns-6 c = refuted _ (λ t. let w = reads _ _ (c .before .before .before .before .before .before .before .before .before .before .before .before .before .before .header-in .ensures) (front _ t) in c .if6 .taken (omega (arith, w .closing, c .before .index-length .ensures)))
+returns-6 c = refuted _ (λ t. c .if6 .taken (told (c .before .before .before .before .before .before .before .before .before .before .before .before .before .before .before) t .counts))
 
 returns-7 : tie.Need-returns-7
-returns-7 c = refuted _ (λ t. c .if7 .taken (reads _ _ (c .before .before .before .before .before .before .before .before .before .before .before .before .before .before .before .before .header-in .ensures) (front _ t) .total))
+returns-7 c = refuted _ (λ t. let w = told (c .before .before .before .before .before .before .before .before .before .before .before .before .before .before .before .before .before .before .before) t in c .if7 .taken (omega (arith, w .closing, c .before .index-length .ensures)))
 
 returns-8 : tie.Need-returns-8
-returns-8 c = refuted _ (λ t. c .if8 .taken (reads _ _ (c .before .before .before .before .before .before .before .before .before .before .before .before .before .before .before .before .before .before .header-in .ensures) (front _ t) .size))
-
-index-ok-requires : tie.Need-index-ok-requires
-index-ok-requires c κs = omega (arith, c .before .before .before .before .before .before .before .before .before .before .before .before .if4, c .before .before .before .before .before .before .before .before .if5, c .before .before .before .before .if6, c .before .before .before .before .before .index-length .ensures, c .before .before .if7, c .if8)
+returns-8 c = refuted _ (λ t. c .if8 .taken (told (c .before .before .before .before .before .before .before .before .before .before .before .before .before .before .before .before .before .before .before .before .before) t .total))
 
 returns-9 : tie.Need-returns-9
-returns-9 c =
+returns-9 c = refuted _ (λ t. c .if9 .taken (told (c .before .before .before .before .before .before .before .before .before .before .before .before .before .before .before .before .before .before .before .before .before .before .before) t .size))
+
+returns-10 : tie.Need-returns-10
+returns-10 c = refuted _ (λ t. clash _ (told (c .before .before .before .before .before .before .before .before .before .before .before .before .before .before .before .before .before .before .before .before .before .before .before .before .before) t .rest) (sym (c .before .rest-ok .ensures) ∙ not-true _ (c .if10 .taken)))
+
+add-if2 : tie.Need-add-if2
+add-if2 c = let k = c .before .edition-in .ensures .1 in omega (arith, k)
+
+rest-ok-requires : tie.Need-rest-ok-requires
+rest-ok-requires c κs = omega (arith, c .before .before .before .before .before .before .before .before .before .before .before .before .before .before .before .before .before .before .before .before .before .if2)
+
+index-ok-requires : tie.Need-index-ok-requires
+index-ok-requires c κs = let k = c .before .before .before .before .before .before .before .before .before .before .before .before .before .before .before .before .before .before .before .before .before .before .before .before .before .edition-in .ensures .1 in omega (arith, k, c .before .before .before .before .before .before .before .before .before .before .before .before .before .before .if5, c .before .before .before .before .before .before .before .before .before .before .if6, c .before .before .before .before .before .before .if7, c .before .before .before .before .before .before .before .index-length .ensures, c .before .before .before .before .if8, c .before .before .if9)
+
+returns-11 : tie.Need-returns-11
+returns-11 c =
     c .index-ok .ensures
-    ∙ reads-is (c .before .before .before .before .before .before .before .before .before .before .before .before .before .before .before .before .before .before .before .before .before .before .args .f .now) (c .before .before .before .before .before .before .before .before .before .before .before .before .before .before .before .before .before .before .before .header-in .result) (c .before .before .before .before .before .before .before .before .before .before .before .before .before .before .before .before .before .before .before .header-in .ensures) (omega (arith, c .before .before .before .before .before .before .before .before .before .before .before .before .before .before .before .before .before .before .before .before .if1))
+    ∙ reads-is (c .before .before .before .before .before .before .before .before .before .before .before .before .before .before .before .before .before .before .before .before .before .before .before .before .before .before .before .before .before .before .args .f .now) (c .before .before .before .before .before .before .before .before .before .before .before .before .before .before .before .before .before .before .before .before .before .before .before .before .before .before .edition-in .result) (c .before .before .before .before .before .before .before .before .before .before .before .before .before .before .before .before .before .before .before .before .before .before .before .before .before .before .before .header-in .result) (c .before .before .before .before .before .before .before .before .before .before .before .before .before .before .before .before .before .before .before .before .before .before .before .before .before .before .before .header-in .ensures) (c .before .before .before .before .before .before .before .before .before .before .before .before .before .before .before .before .before .before .before .before .before .before .before .before .before .before .edition-in .ensures .0)
     (record {
-      edition = omega (arith, c .before .before .before .before .before .before .before .before .before .before .before .before .before .before .before .before .before .if2);
-      pictures = omega (arith, c .before .before .before .before .before .before .before .before .before .before .before .before .before .before .before .if3);
-      most = omega (arith, c .before .before .before .before .before .before .before .before .before .before .before .before .before .if4);
-      counts = omega (arith, c .before .before .before .before .before .before .before .before .before .if5);
-      closing = omega (arith, c .before .before .before .before .before .if6, c .before .before .before .before .before .before .index-length .ensures);
-      total = omega (arith, c .before .before .before .if7);
-      size = omega (arith, c .before .if8);
+      known = c .before .before .before .before .before .before .before .before .before .before .before .before .before .before .before .before .before .before .before .before .before .before .before .before .before .before .edition-in .ensures .1;
+      least = omega (arith, c .before .before .before .before .before .before .before .before .before .before .before .before .before .before .before .before .before .before .before .before .before .before .before .before .if2);
+      edition = omega (arith, c .before .before .before .before .before .before .before .before .before .before .before .before .before .before .before .before .before .before .before .before .before .if3);
+      pictures = omega (arith, c .before .before .before .before .before .before .before .before .before .before .before .before .before .before .before .before .before .before .if4);
+      most = omega (arith, c .before .before .before .before .before .before .before .before .before .before .before .before .before .before .before .if5);
+      counts = omega (arith, c .before .before .before .before .before .before .before .before .before .before .before .if6);
+      closing = omega (arith, c .before .before .before .before .before .before .before .if7, c .before .before .before .before .before .before .before .before .index-length .ensures);
+      total = omega (arith, c .before .before .before .before .before .if8);
+      size = omega (arith, c .before .before .before .if9);
+      rest = sym (c .before .before .rest-ok .ensures) ∙ not-false _ (c .before .if10 .left);
     })
 
 pub front-ok-spec : {M : Type 1} → statement M
@@ -54,25 +76,31 @@ front-ok-spec =
     tie.close
     (tie.spec
     returns
-    (λ c κs. search needs)
+    (λ c. search needs)
+    (λ c. search needs)
+    add-if2
+    (λ c. search needs)
     returns-2
     returns-3
     returns-4
-    (λ c. search needs)
-    (λ c. search needs)
-    (λ c. search needs)
-    (λ c. search needs)
     returns-5
     (λ c. search needs)
     (λ c. search needs)
-    (λ c κs. search needs)
+    (λ c. search needs)
     (λ c. search needs)
     returns-6
     (λ c. search needs)
     (λ c. search needs)
     (λ c. search needs)
+    (λ c. search needs)
     returns-7
     (λ c. search needs)
+    (λ c. search needs)
+    (λ c. search needs)
     returns-8
+    (λ c. search needs)
+    returns-9
+    rest-ok-requires
+    returns-10
     index-ok-requires
-    returns-9)
+    returns-11)

@@ -1,7 +1,7 @@
 -- `reader::index_ok` meets its contract. The loop's invariant: the rules of all entries come to those of the entries that are left.
 -- Assumes nothing.
 use mathlib.Core.Path.{_≡_, refl, sym, ap, _∙_}
-use Prim.Native.Nat.{ℕ, suc, _+_, _-_, _*_, _≤_, _<_}
+use Prim.Native.Nat.{ℕ, suc, _+_, _-_, _*_, _≤_}
 use native.Mathlib.Omega.{arith}
 use borrow.Author.Needs.{needs}
 use borrow.Author.Tests.{not-true, not-false}
@@ -9,21 +9,18 @@ use lib.ListN.{length}
 use Rattle.burst.specs.declared.Entry.{Entry}
 use Rattle.burst.specs.Index.{entryRules, indexRules}
 use Rattle.burst.proofs.Rules.{obeys}
-use Rattle.reader.specs.Front.{entryAt, entriesAt}
+use Rattle.reader.specs.Front.{entriesAt}
 use Rattle.reader.proofs.Rules.{entries-next, entries-fault, entries-end}
 use Rattle.reader.proofs.index_ok.Statement.{statement}
 use Rattle.reader.proofs.index_ok.Tie as tie
 
 abbrev Inv-loop : tie.InvT-loop
-Inv-loop f count start taken end left₀ position₀ last₀ offset₀ left position last offset =
-    (left ≤ count) × (position + 12 * left ≤ length f) × (offset ≤ 32 + 1048608 * (count - left))
-    × (indexRules 0 32 taken end (entriesAt count start f) ≡ indexRules last offset taken end (entriesAt left position f))
+Inv-loop f header count start taken end left₀ position₀ last₀ offset₀ left position last offset =
+    (left ≤ count) × (position + 12 * left ≤ length f) × (offset ≤ header + 1048608 * (count - left))
+    × (indexRules 0 header taken end (entriesAt count start f) ≡ indexRules last offset taken end (entriesAt left position f))
 
 abbrev μ-loop : tie.MeasureT-loop
-μ-loop f count start taken end left₀ position₀ last₀ offset₀ left position last offset = left
-
-loop-holds : tie.Need-loop-holds Inv-loop μ-loop
-loop-holds c = (omega arith, omega arith, omega arith, refl)
+μ-loop f header count start taken end left₀ position₀ last₀ offset₀ left position last offset = left
 
 -- what the test of the entry says
 returns : tie.Need-returns Inv-loop μ-loop
@@ -76,9 +73,9 @@ index-ok-spec =
     (tie.spec
     Inv-loop
     μ-loop
-    loop-holds
+    (λ c. (omega arith, omega arith, omega arith, refl))
     (λ c κs. omega arith)
-    (λ c κs. search needs)
+    (λ c. search needs)
     returns
     add-offset
     add-offset-2

@@ -1,11 +1,12 @@
 -- `reader::locate` meets its contract.
 -- Assumes nothing.
-use mathlib.Core.Path.{_≡_, sym, ap, _∙_}
+use mathlib.Core.Path.{sym, ap, _∙_}
 use Prim.Native.Nat.{ℕ, _+_, _*_}
 use native.Mathlib.Omega.{arith}
 use borrow.Author.Needs.{needs}
+use Rattle.burst.specs.Layout.{entryLength}
 use Rattle.reader.specs.declared.Header.{Header}
-use Rattle.reader.proofs.Answers.{accepted, checked-number, checked-mark, checked-kept, checked-burst, locate-check, locate-13, locate-0}
+use Rattle.reader.proofs.Answers.{accepted, checked-number, checked-mark, checked-kept, locate-check, locate-13, locate-0}
 use Rattle.reader.proofs.locate.Statement.{statement}
 use Rattle.reader.proofs.locate.Tie as tie
 
@@ -31,18 +32,17 @@ returns-3 c =
     let a = c .before .before .before .before .before .before .before .before .before .before .before .args in
     let z = sym (checked-number _ _ _ (c .before .before .before .before .before .before .before .before .check .ensures)) ∙ c .before .before .before .before .before .before .if1 .left in
     let k = checked-kept _ _ _ (c .before .before .before .before .before .before .before .before .check .ensures) (c .before .before .before .before .before .before .if1 .left) in
-    locate-0 (a .key .now) (a .f .now) (a .place .0) z (omega (arith, k, c .before .before .before .if2)) _ _ (checked-burst _ _ _ (c .before .before .before .before .before .before .before .before .check .ensures) (c .before .before .before .before .before .before .if1 .left))
-    (ap (λ (x : Header). x .index + 12 * a .place .0) (c .before .before .header-in .ensures))
+    locate-0 (a .key .now) (a .f .now) (a .place .0) z (omega (arith, k, c .before .before .before .if2)) _
+    (ap (λ (n : ℕ). c .before .before .header-in .result .index + n) (c .index-length .ensures) ∙ ap (λ (x : Header). x .index + entryLength * a .place .0) (c .before .before .header-in .ensures))
 
 pub locate-spec : {M : Type 1} → statement M
 locate-spec =
     tie.close
     (tie.spec
-    (λ c κs. search needs)
+    (λ c. search needs)
     returns
     returns-2
     header-in-requires
-    (λ c. search needs)
     (λ c. search needs)
     (λ c. search needs)
     (λ c. search needs)

@@ -1,22 +1,35 @@
 -- `reader::open_record` meets its contract.
 -- Assumes nothing.
-use mathlib.Core.List.{_++_, append-nil}
-use mathlib.Core.Path.{_≡_, refl, sym, ap, ap₂, _∙_}
+use mathlib.Core.List.{append-nil}
+use mathlib.Core.Path.{_≡_, ap, _∙_}
 use Prim.Native.Nat.{ℕ, _+_, _-_}
 use native.Mathlib.Omega.{arith}
 use borrow.Author.Needs.{needs}
 use lib.ListN.{length, take, drop, length-drop}
 use lib.Seq.{length-take-le}
-use Rattle.bytes_le.specs.Bytes.{Bytes, putBytes}
-use Rattle.icepole.specs.declared.Opened.{Opened}
-use Rattle.icepole.specs.declared.Variant.the-variants.{Icepole128}
-use Rattle.icepole.specs.Answers.{openAnswer, openOutput, fitsOutput}
-use Rattle.burst.specs.Layout.{nonceOf}
-use Rattle.burst.proofs.Puts.{length-nonce}
+use Rattle.bytes_le.specs.Bytes.{Bytes}
+use Rattle.burst.specs.declared.Entry.{Entry}
+use Rattle.burst.specs.Parts.{sealLength}
+use Rattle.burst.specs.Layout.{entryLength}
 use Rattle.reader.specs.declared.Fetched.{Fetched}
-use Rattle.reader.proofs.Opens.{opened-secret, opened-message, record-tag, record-secret, record-message}
+use Rattle.reader.specs.Reader.{recordPart}
+use Rattle.reader.proofs.Opens.{mark-told, body-told, record-answer, record-output}
 use Rattle.reader.proofs.open_record.Statement.{statement}
 use Rattle.reader.proofs.open_record.Tie as tie
+
+open-part-requires : tie.Need-open-part-requires
+open-part-requires c κs =
+    let a = c .before .before .before .before .before .before .before .before .before .before .before .before .args in
+    let p = c .before .before .before .before .before .before .before .before .before .before .before .before .pre in
+    let f = a .f .now in
+    let x = a .x in
+    let q₁ : a .position + entryLength - a .position ≡ entryLength = omega arith in
+    let q₂ : x .offset + (x .length + sealLength) - x .offset ≡ x .length + sealLength = omega arith in
+    let d₁ = length-drop (a .position) f in
+    let d₂ = length-drop (x .offset) f in
+    let l₁ = length-take-le (a .position + entryLength - a .position) (drop (a .position) f) (omega (arith, d₁, p)) in
+    let l₂ = length-take-le (x .offset + (x .length + sealLength) - x .offset) (drop (x .offset) f) (omega (arith, d₂, p)) in
+    (p .0, omega (arith, l₁, q₁), omega (arith, l₂, q₂), omega (arith, l₂, q₂, p), omega (arith, l₂, q₂, p))
 
 returns : tie.Need-returns
 returns c =
@@ -24,36 +37,28 @@ returns c =
     let p = c .before .before .before .before .before .before .before .before .before .before .before .before .before .before .before .before .pre in
     let k = a .key .now in
     let f = a .f .now in
-    let e = a .e in
-    let n = c .before .before .before .before .before .before .before .before .before .before .before .nonce-of .result in
-    let en = c .before .before .before .before .before .before .before .before .before .before .before .nonce-of .ensures ∙ ap (λ (b : ℕ). nonceOf b (e .shot .0)) (p .1) in
-    let d₁ : a .position + 12 - a .position ≡ 12 = omega arith in
-    let d₂ : e .offset + (e .length + 32) - e .offset ≡ e .length + 32 = omega arith in
-    let ad = take 12 (drop (a .position) f) in
-    let ea = append-nil (take (a .position + 12 - a .position) (drop (a .position) f)) ∙ ap (λ (i : ℕ). take i (drop (a .position) f)) d₁ in
-    let ct = take (e .length + 32) (drop (e .offset) f) in
-    let ec = ap (λ (i : ℕ). take i (drop (e .offset) f)) d₂ in
-    let lc : length ct ≡ e .length + 32 = length-take-le (e .length + 32) (drop (e .offset) f) (rw length-drop (omega (arith, p))) in
-    let la : length ad ≡ 12 = length-take-le 12 (drop (a .position) f) (rw length-drop (omega (arith, p))) in
-    let ln : length n ≡ 16 = ap length (c .before .before .before .before .before .before .before .before .before .before .before .nonce-of .ensures) ∙ length-nonce _ _ in
-    let t = record-tag k f (a .position) e (p .2) n ad en refl ∙ p .3 in
-    let s : c .before .before .before .open-message .result .secret ≡ _ =
-    ap (λ (r : Opened). r .secret) (c .before .before .before .open-message .ensures .0)
-    ∙ ap₂ (λ (x y : Bytes). openAnswer Icepole128 k n x y (fitsOutput Icepole128 y (a .out .now)) .secret) ea ec
-    ∙ opened-secret k n ad ct (e .length) (p .0) ln (omega arith) (p .6) lc (a .out .now) t (p .7)
-    ∙ record-secret k f (a .position) e (p .2) n en in (
-      ap (λ (x : Bytes). let y : Fetched = record { refusal = 0; mark = 0; shot = e .shot; stamp = x; length = e .length } in y) s,
-      c .before .before .before .open-message .ensures .1
-          ∙ ap₂ (λ (x y : Bytes). openOutput Icepole128 k n x y (fitsOutput Icepole128 y (a .out .now)) (a .out .now)) ea ec
-          ∙ opened-message k n ad ct (e .length) (p .0) ln (omega arith) (p .6) lc (a .out .now) t (p .7)
-          ∙ ap (putBytes (a .out .now) 0) (record-message k f (a .position) e (p .2) n ad en refl),
+    let x = a .x in
+    let part = recordPart f (a .position) in
+    let q₁ : a .position + entryLength - a .position ≡ entryLength = omega arith in
+    let q₂ : x .offset + (x .length + sealLength) - x .offset ≡ x .length + sealLength = omega arith in
+    let ea = append-nil _ ∙ ap (λ (n : ℕ). take n (drop (a .position) f)) q₁ in
+    let ec = ap (λ (n : ℕ). take n (drop (x .offset) f)) q₂ in
+    let n = ap (λ (y : Entry). y .length) (p .2) in
+    let o = ap (λ (y : Entry). y .offset) (p .2) in
+    let d = length-drop (part .offset) f in
+    let l = length-take-le (part .count + sealLength) (drop (part .offset) f) (omega (arith, d, n, o, p)) in
+    let r = c .before .before .before .open-part .ensures .0
+    ∙ record-answer k f _ (c .before .before .before .before .before .before .before .before .before .before .before .before .edition-in .ensures .0) _ (c .before .before .before .before .before .before .before .before .before .before .before .name-in .ensures) (a .position) x (p .2) _ ea _ ec in (
+      ap (λ (s : Bytes). let y : Fetched = record { refusal = 0; mark = 0; shot = x .shot; stamp = s; length = x .length } in y) (mark-told k f part _ r (p .3) (omega (arith, l))),
+      c .before .before .before .open-part .ensures .1
+          ∙ record-output k f _ (c .before .before .before .before .before .before .before .before .before .before .before .before .edition-in .ensures .0) _ (c .before .before .before .before .before .before .before .before .before .before .before .name-in .ensures) (a .position) x (p .2) _ ea _ ec (a .out .now)
+          ∙ body-told k f part (a .out .now) (p .3),
     )
 
 pub open-record-spec : {M : Type 1} → statement M
 open-record-spec =
     tie.close
     (tie.spec
-    (λ c κs. search needs)
     (λ c. search needs)
     (λ c. search needs)
     (λ c. search needs)
@@ -67,6 +72,8 @@ open-record-spec =
     (λ c. search needs)
     (λ c. search needs)
     (λ c. search needs)
-    (λ c κs. search needs)
+    (λ c. search needs)
+    (λ c. search needs)
+    open-part-requires
     (λ c. search needs)
     returns)

@@ -1,15 +1,11 @@
 -- `reader::verify_records` meets its contract. The loop's invariant: the verdict on all records is that on the records that are left.
 -- Assumes nothing.
-use mathlib.Core.Option.{Option, some}
+use mathlib.Core.Option.{some}
 use mathlib.Core.Path.{_≡_, refl, sym, ap, _∙_}
 use Prim.Native.Nat.{ℕ, suc, _+_, _-_, _*_, _≤_}
 use native.Mathlib.Omega.{arith}
-use borrow.Author.Needs.{needs}
 use borrow.Author.Tests.{not-true, not-false}
-use lib.ListN.{length}
-use Rattle.bytes_le.specs.Bytes.{Bytes}
 use Rattle.burst.specs.declared.Entry.{Entry}
-use Rattle.reader.specs.declared.Verdict.{Verdict}
 use Rattle.reader.specs.Reader.{recordParts, firstDiffering}
 use Rattle.reader.proofs.Rules.{front, in-range-at}
 use Rattle.reader.proofs.Parts.{parts-end, parts-next, parts-differ}
@@ -17,12 +13,12 @@ use Rattle.reader.proofs.verify_records.Statement.{statement}
 use Rattle.reader.proofs.verify_records.Tie as tie
 
 abbrev Inv-loop : tie.InvT-loop
-Inv-loop key f burst-number count start left₀ position₀ left position =
+Inv-loop key f e name count start left₀ position₀ left position =
     (left ≤ count) × (position ≡ start + 12 * (count - left))
     × (firstDiffering key f (recordParts count start f) ≡ firstDiffering key f (recordParts left position f))
 
 abbrev μ-loop : tie.MeasureT-loop
-μ-loop key f burst-number count start left₀ position₀ left position = left
+μ-loop key f e name count start left₀ position₀ left position = left
 
 record-agrees-requires : tie.Need-record-agrees-requires Inv-loop μ-loop
 record-agrees-requires c κs =
@@ -31,7 +27,7 @@ record-agrees-requires c κs =
     let f = c .before .before .before .before .args .f .now in
     let w = front f (p .1) in
     let g = in-range-at f (l .position) (c .before .before .before .before .args .count - l .left) w (omega (arith, l, p)) (omega (arith, l, p)) in
-    (p .0, p .2, omega (arith, w, l, p), g .most, omega (arith, w, g))
+    (p .0, p .2, p .3, omega (arith, w, l, p), g .most, omega (arith, w, g))
 
 entry-at-requires : tie.Need-entry-at-requires Inv-loop μ-loop
 entry-at-requires c κs =

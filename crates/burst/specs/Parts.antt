@@ -1,0 +1,53 @@
+-- A sealed part of the burst file: a record, or the closing seal, which has shot number 0 (01, "The burst file"). It holds a mark of 16 bytes and a body. Here the cipher is chosen; recorder, reader and claims name no variant.
+-- Assumes nothing.
+use mathlib.Core.Bool.{Bool}
+use mathlib.Core.List.{_++_}
+use Prim.Native.Nat.{ℕ, _-_, _<_, _^_}
+use lib.ListN.{length, replicate}
+use Rattle.bytes_le.specs.Bytes.{Bytes, le, putBytes}
+use Rattle.icepole.specs.declared.Opened.{Opened}
+use Rattle.icepole.specs.declared.Variant.the-variants.{Icepole128}
+use Rattle.icepole.specs.Variants.{sizes}
+use Rattle.icepole.specs.Sealing.{pick, sealed, secretOf, messageOf}
+use Rattle.icepole.specs.Answers.{tagAgrees, openedAnswer, unless}
+use Rattle.burst.specs.declared.Edition.{Edition}
+use Rattle.burst.specs.declared.Name.{Name}
+
+-- bytes by which sealing lengthens: the sealed secret number and the tag. A closing seal has no more
+abbrev pub sealLength : ℕ
+sealLength = 32
+
+-- the numbers of a name fit the bytes that nonce and header have for them
+abbrev pub Fits : Edition → Name → Type 0
+Fits e name = name .burst < 2 ^ 64
+
+-- nonce: burst number, shot number, six zeros
+unfoldable pub nonceOf : Edition → Name → (shot : ℕ) → Bytes
+nonceOf e name shot = le 8 (name .burst) ++ (le 2 shot ++ replicate 6 0)
+
+module _ (e : Edition) (key : Bytes) (name : Name) (shot : ℕ) where
+  -- ---- sealing: ICEPOLE-128, with the mark as the secret number and the body as the message
+  unfoldable pub sealPart : (mark associated body : Bytes) → Bytes
+  sealPart mark associated body = sealed (sizes Icepole128) key (nonceOf e name shot) mark associated body
+
+  -- ---- opening the sealed bytes c: whether the tag agrees, the mark, and the body
+  module _ (associated c : Bytes) where
+    unfoldable pub partAgrees : Bool
+    partAgrees = tagAgrees (sizes Icepole128) key (nonceOf e name shot) associated c
+
+    unfoldable pub partMark : Bytes
+    partMark = secretOf (sizes Icepole128) key (nonceOf e name shot) c
+
+    unfoldable pub partBody : Bytes
+    partBody = messageOf (sizes Icepole128) key (nonceOf e name shot) associated c
+
+    -- ---- what verifying and opening answer where every length is right: the tag alone decides
+    unfoldable pub partNumber : ℕ
+    partNumber = pick partAgrees 0 7
+
+    -- the body's length and the mark
+    unfoldable pub partAnswer : Opened
+    partAnswer = openedAnswer partNumber (length c - sealLength) partMark
+
+    unfoldable pub partOutput : (out : Bytes) → Bytes
+    partOutput out = unless partNumber out (putBytes out 0 partBody)
