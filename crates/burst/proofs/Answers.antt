@@ -38,7 +38,7 @@ module _ (key : Bytes) (i : Identity) (b : Bytes) (e : Edition) (own : e ≡ wri
   unfolding beginRefused
   begins-own = ap (λ (x : Edition). beginNumber x (length key) (length (i .siteMark)) (length b)) own
 
-  pub begin-refused : (num : ℕ) → num ≡ Begins → (num ≡ 0 → ⊥) → (r : Recorder) → r ≡ newRecorder (replicate 16 0) (record { name = record { burst = 0 }; siteMark = replicate 16 0 }) 0 true
+  pub begin-refused : (num : ℕ) → num ≡ Begins → (num ≡ 0 → ⊥) → (r : Recorder) → r ≡ newRecorder (replicate 16 0) (record { name = record { «burst_number» = 0 }; siteMark = replicate 16 0 }) 0 true
       → (begunWith num r ≡ beginAnswer key i b) × (b ≡ beginBuffer key i b)
   unfolding beginAnswer beginBuffer noRecorder
   begin-refused num n h r f =

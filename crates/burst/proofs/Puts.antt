@@ -5,8 +5,8 @@ use mathlib.Core.Path.{_≡_, refl, sym, ap, _∙_}
 use Prim.Native.Nat.{ℕ, zero, suc, _+_, _-_, _*_, _≤_, _<_}
 use native.Mathlib.Omega.{arith}
 use native.Mathlib.Numerals.{add-one}
-use lib.ListN.{length, take, getD, replicate, length-replicate}
-use lib.Seq.{take-suc, take-append-add}
+use lib.ListN.{length, take, getD, replicate, length-replicate, length-append, replicate-append-replicate}
+use lib.Seq.{take-suc, take-at}
 use Rattle.bytes_le.specs.Bytes.{Bytes, putBytes, le}
 use Rattle.bytes_le.proofs.Laws.{put-put, take-put}
 use Rattle.burst.specs.declared.Entry.{Entry}
@@ -65,19 +65,19 @@ entry-put l h₁ h₂ h₃ h₄ at a b c s z p n h e₁ g₁ e₂ g₂ e₃ g₃
     (grow l h₁ h₂ (le 2 s) (le 2 z) at a e₁ e₂ g₁ (omega arith)) e₃ (omega arith) (omega arith)) e₄ (omega arith) (omega arith)
 
 -- the nonce's fields, over zeros
-pub nonce-put : (e : Edition) (name : Name) (h₁ h₂ : Bytes) (s i : ℕ) → i ≡ 8 → h₁ ≡ putBytes (replicate 16 0) 0 (le 8 (name .burst)) → h₂ ≡ putBytes h₁ i (le 2 s)
+pub nonce-put : (e : Edition) (name : Name) (h₁ h₂ : Bytes) (s i : ℕ) → i ≡ 8 → h₁ ≡ putBytes (replicate 16 0) 0 (le 8 (name .«burst_number»)) → h₂ ≡ putBytes h₁ i (le 2 s)
     → h₂ ≡ nonceOf e name s
 unfolding nonceOf putBytes
 nonce-put e name h₁ h₂ s i g p f =
-    grow (replicate 16 0) h₁ h₂ (le 8 (name .burst)) (le 2 s) 0 8 p (f ∙ ap (λ (k : ℕ). putBytes h₁ k (le 2 s)) g) refl (omega arith)
+    grow (replicate 16 0) h₁ h₂ (le 8 (name .«burst_number»)) (le 2 s) 0 8 p (f ∙ ap (λ (k : ℕ). putBytes h₁ k (le 2 s)) g) refl (omega arith)
 
 -- the header's nine fields, over the bytes of the longest header
 module _ (e : Edition) (name : Name) (t k d u : ℕ) where
   abbrev fields : Bytes
-  fields = le 2 (e .number) ++ (le 2 t ++ (le 2 k ++ (le 2 d ++ (le 8 (name .burst) ++ (le 4 (e .header) ++ (le 4 u ++ (le 4 (u + 12 * k) ++ le 4 (u + 12 * k + 32))))))))
+  fields = le 2 (e .number) ++ (le 2 t ++ (le 2 k ++ (le 2 d ++ (le 8 (name .«burst_number») ++ (le 4 (e .header) ++ (le 4 u ++ (le 4 (u + 12 * k) ++ le 4 (u + 12 * k + 32))))))))
 
   fields-put : (l h₁ h₂ h₃ h₄ h₅ h₆ h₇ h₈ h₉ : Bytes) → length l ≡ maxHeader
-      → h₁ ≡ putBytes l 0 (le 2 (e .number)) → h₂ ≡ putBytes h₁ 2 (le 2 t) → h₃ ≡ putBytes h₂ 4 (le 2 k) → h₄ ≡ putBytes h₃ 6 (le 2 d) → h₅ ≡ putBytes h₄ 8 (le 8 (name .burst))
+      → h₁ ≡ putBytes l 0 (le 2 (e .number)) → h₂ ≡ putBytes h₁ 2 (le 2 t) → h₃ ≡ putBytes h₂ 4 (le 2 k) → h₄ ≡ putBytes h₃ 6 (le 2 d) → h₅ ≡ putBytes h₄ 8 (le 8 (name .«burst_number»))
       → h₆ ≡ putBytes h₅ 16 (le 4 (e .header)) → h₇ ≡ putBytes h₆ 20 (le 4 u) → h₈ ≡ putBytes h₇ 24 (le 4 (u + 12 * k)) → h₉ ≡ putBytes h₈ 28 (le 4 (u + 12 * k + 32))
       → h₉ ≡ putBytes l 0 fields
   fields-put l h₁ h₂ h₃ h₄ h₅ h₆ h₇ h₈ h₉ z e₁ e₂ e₃ e₄ e₅ e₆ e₇ e₈ e₉ =
@@ -85,33 +85,36 @@ module _ (e : Edition) (name : Name) (t k d u : ℕ) where
       (grow l h₇ h₈ _ (le 4 (u + 12 * k)) 0 24
       (grow l h₆ h₇ _ (le 4 u) 0 20
       (grow l h₅ h₆ _ (le 4 (e .header)) 0 16
-      (grow l h₄ h₅ _ (le 8 (name .burst)) 0 8
+      (grow l h₄ h₅ _ (le 8 (name .«burst_number»)) 0 8
       (grow l h₃ h₄ _ (le 2 d) 0 6
       (grow l h₂ h₃ _ (le 2 k) 0 4
       (grow l h₁ h₂ (le 2 (e .number)) (le 2 t) 0 2 e₁ e₂ refl (omega arith))
       e₃ refl (omega arith)) e₄ refl (omega arith)) e₅ refl (omega arith)) e₆ refl (omega arith)) e₇ refl (omega arith)) e₈ refl (omega arith)) e₉ refl (omega arith)
 
-  -- over zeros, the header stands at the front
-  fields-front : Known e → (length (putBytes (replicate maxHeader 0) 0 fields) ≡ maxHeader) × (take (e .header) (putBytes (replicate maxHeader 0) 0 fields) ≡ headerBytes e name t k d u)
+  -- over zeros: the header, and the zeros behind it
+  fields-front : Known e → putBytes (replicate maxHeader 0) 0 fields ≡ headerBytes e name t k d u ++ replicate (maxHeader - e .header) 0
   unfolding headerBytes headerRest putBytes
   fields-front w =
-      let g = w .least in
-      let g₂ = w .header in
-      let s : e .header ≡ fieldsLength + (e .header - fieldsLength) = omega arith in (
-        refl,
-        ap (λ (n : ℕ). take n (fields ++ replicate (maxHeader - fieldsLength) 0)) s
-            ∙ take-append-add fields (replicate (maxHeader - fieldsLength) 0) (e .header - fieldsLength)
-            ∙ ap (λ (r : Bytes). fields ++ r) (take-zeros (e .header - fieldsLength) (maxHeader - fieldsLength) (omega arith)),
-      )
+      let q : maxHeader - fieldsLength ≡ e .header - fieldsLength + (maxHeader - e .header) = omega (arith, w) in
+      ap (λ (r : Bytes). fields ++ r)
+      (ap (λ (n : ℕ). replicate n 0) q ∙ sym (replicate-append-replicate (e .header - fieldsLength) (maxHeader - e .header) 0))
 
   pub header-put : Known e → (h₁ h₂ h₃ h₄ h₅ h₆ h₇ h₈ h₉ : Bytes)
-      → h₁ ≡ putBytes (replicate maxHeader 0) 0 (le 2 (e .number)) → h₂ ≡ putBytes h₁ 2 (le 2 t) → h₃ ≡ putBytes h₂ 4 (le 2 k) → h₄ ≡ putBytes h₃ 6 (le 2 d) → h₅ ≡ putBytes h₄ 8 (le 8 (name .burst))
+      → h₁ ≡ putBytes (replicate maxHeader 0) 0 (le 2 (e .number)) → h₂ ≡ putBytes h₁ 2 (le 2 t) → h₃ ≡ putBytes h₂ 4 (le 2 k) → h₄ ≡ putBytes h₃ 6 (le 2 d) → h₅ ≡ putBytes h₄ 8 (le 8 (name .«burst_number»))
       → h₆ ≡ putBytes h₅ 16 (le 4 (e .header)) → h₇ ≡ putBytes h₆ 20 (le 4 u) → h₈ ≡ putBytes h₇ 24 (le 4 (u + 12 * k)) → h₉ ≡ putBytes h₈ 28 (le 4 (u + 12 * k + 32))
-      → (length h₉ ≡ maxHeader) × (take (e .header) h₉ ≡ headerBytes e name t k d u)
+      → h₉ ≡ headerBytes e name t k d u ++ replicate (maxHeader - e .header) 0
   header-put w h₁ h₂ h₃ h₄ h₅ h₆ h₇ h₈ h₉ e₁ e₂ e₃ e₄ e₅ e₆ e₇ e₈ e₉ =
-      let q = fields-put (replicate maxHeader 0) h₁ h₂ h₃ h₄ h₅ h₆ h₇ h₈ h₉ refl e₁ e₂ e₃ e₄ e₅ e₆ e₇ e₈ e₉ in
-      let f = fields-front w in
-      (ap length q ∙ f .0, ap (take (e .header)) q ∙ f .1)
+      fields-put (replicate maxHeader 0) h₁ h₂ h₃ h₄ h₅ h₆ h₇ h₈ h₉ refl e₁ e₂ e₃ e₄ e₅ e₆ e₇ e₈ e₉ ∙ fields-front w
+
+  -- it stands at the front
+  pub header-front : Known e → (h : Bytes) → h ≡ headerBytes e name t k d u ++ replicate (maxHeader - e .header) 0
+      → (length h ≡ maxHeader) × (take (e .header) h ≡ headerBytes e name t k d u)
+  header-front w h is =
+      let l = length-header e w name t k d u in
+      let z = length-replicate {A = ℕ} (maxHeader - e .header) 0 in (
+        ap length is ∙ length-append (headerBytes e name t k d u) (replicate (maxHeader - e .header) 0) ∙ (omega (arith, w, l, z)),
+        ap (take (e .header)) is ∙ take-at (headerBytes e name t k d u) (replicate (maxHeader - e .header) 0) (e .header) l,
+      )
 
 -- one more entry of an index
 pub index-snoc : (es : List Entry) (e : Entry) → indexBytes (es ++ (e ∷ [])) ≡ indexBytes es ++ bytesOfEntry e

@@ -1,4 +1,4 @@
--- The editions of the burst file as rows of one table (01, "The burst file"): every number that an edition sets stands in its row and nowhere else. Everything above, demand 3 among it, is said of any row.
+-- The editions of the burst file as rows of one table (01, "The burst file"): every number that an edition sets stands in its row and nowhere else. File, plain burst and front rules are said of any row; the recorder's calls are at the row that is written.
 -- Assumes nothing.
 use mathlib.Core.List.{List, [], _∷_, map}
 use mathlib.Core.Logic.{_⊎_}
@@ -33,11 +33,11 @@ rowIn number (x ∷ xs) = pick (eqb number (x .number)) x (rowIn number xs)
 unfoldable pub numbered : ℕ → Edition
 numbered number = rowIn number editions
 
--- the row that the writer makes, from the key's length
+-- the row that the writer makes, from the key's length: edition 1 for every key
 unfoldable pub written : (key : ℕ) → Edition
 written key = edition1
 
--- ---- what holds of every row
+-- ---- the largest of the rows
 abbrev largest : List ℕ → ℕ
 largest [] = 0
 largest (n ∷ ns) = pick (leb n (largest ns)) (largest ns) n
@@ -54,7 +54,7 @@ maxHeader = largest (map (λ (e : Edition). e .header) editions)
 abbrev pub fieldsLength : ℕ
 fieldsLength = 32
 
--- what code and proofs need of a row
+-- ---- what holds of every row: what code and proofs need of it
 pub record Known (e : Edition) : Type 0 where
   pub number : e .number < 2 ^ 16
   pub least : fieldsLength ≤ e .header

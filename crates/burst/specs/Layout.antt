@@ -46,7 +46,7 @@ headerBytes e name taken kept dropped indexOffset =
     ++ (le 2 taken
     ++ (le 2 kept
     ++ (le 2 dropped
-    ++ (le 8 (name .burst)
+    ++ (le 8 (name .«burst_number»)
     ++ (le 4 (e .header)
     ++ (le 4 indexOffset
     ++ (le 4 (closingOffset indexOffset kept) ++ (le 4 (closingOffset indexOffset kept + sealLength) ++ headerRest e name))))))))

@@ -1,4 +1,4 @@
--- A sealed part of the burst file: a record, or the closing seal, which has shot number 0 (01, "The burst file"). It holds a mark of 16 bytes and a body. Here the cipher is chosen; recorder, reader and claims name no variant.
+-- A sealed part of the burst file: a record, or the closing seal, which has shot number 0 (01, "The burst file"). It holds a mark of 16 bytes, which is the stamp or the site mark, and a body. (The mark that goes with a refusal number is another.) Here the cipher is chosen; recorder, reader and demand 3 name no variant.
 -- Assumes nothing.
 use mathlib.Core.Bool.{Bool}
 use mathlib.Core.List.{_++_}
@@ -17,13 +17,13 @@ use Rattle.burst.specs.declared.Name.{Name}
 abbrev pub sealLength : ℕ
 sealLength = 32
 
--- the numbers of a name fit the bytes that nonce and header have for them
+-- what the types of begin's arguments say of a name: a burst number has eight bytes, as in the header
 abbrev pub Fits : Edition → Name → Type 0
-Fits e name = name .burst < 2 ^ 64
+Fits e name = name .«burst_number» < 2 ^ 64
 
 -- nonce: burst number, shot number, six zeros
 unfoldable pub nonceOf : Edition → Name → (shot : ℕ) → Bytes
-nonceOf e name shot = le 8 (name .burst) ++ (le 2 shot ++ replicate 6 0)
+nonceOf e name shot = le 8 (name .«burst_number») ++ (le 2 shot ++ replicate 6 0)
 
 module _ (e : Edition) (key : Bytes) (name : Name) (shot : ℕ) where
   -- ---- sealing: ICEPOLE-128, with the mark as the secret number and the body as the message
@@ -45,7 +45,7 @@ module _ (e : Edition) (key : Bytes) (name : Name) (shot : ℕ) where
     unfoldable pub partNumber : ℕ
     partNumber = pick partAgrees 0 7
 
-    -- the body's length and the mark
+    -- the body's length, and the mark in the field of the secret number
     unfoldable pub partAnswer : Opened
     partAnswer = openedAnswer partNumber (length c - sealLength) partMark
 

@@ -55,7 +55,7 @@ pub record Plain : Type 0 where
 
 -- at first it is closed
 abbrev pub noBurst : Plain
-noBurst = record { key = []; identity = record { name = record { burst = 0 }; siteMark = [] }; shots = []; closed = true }
+noBurst = record { key = []; identity = record { name = record { «burst_number» = 0 }; siteMark = [] }; shots = []; closed = true }
 
 module _ (e : Edition) where
   abbrev pub usedOf : Plain → ℕ

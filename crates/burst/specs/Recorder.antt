@@ -24,7 +24,7 @@ abbrev pub editionOf : Recorder → Edition
 editionOf r = written (length (r .key))
 
 abbrev pub nameOf : Recorder → Name
-nameOf r = record { burst = r .«burst_number» }
+nameOf r = record { «burst_number» = r .«burst_number» }
 
 abbrev pub identityOf : Recorder → Identity
 identityOf r = record { name = nameOf r; siteMark = r .«site_mark» }
@@ -42,7 +42,7 @@ isSound e r =
 unfoldable pub newRecorder : (key : Bytes) (i : Identity) (used : ℕ) (closed : Bool) → Recorder
 newRecorder key i used closed = record {
   key = key;
-  «burst_number» = i .name .burst;
+  «burst_number» = i .name .«burst_number»;
   «site_mark» = i .siteMark;
   taken = record { 0 = 0 };
   kept = record { 0 = 0 };
@@ -53,7 +53,7 @@ newRecorder key i used closed = record {
 
 -- what a begin that is turned down returns: a closed recorder, otherwise zero
 unfoldable pub noRecorder : Recorder
-noRecorder = newRecorder (replicate 16 0) (record { name = record { burst = 0 }; siteMark = replicate 16 0 }) 0 true
+noRecorder = newRecorder (replicate 16 0) (record { name = record { «burst_number» = 0 }; siteMark = replicate 16 0 }) 0 true
 
 module _ (key : Bytes) (i : Identity) (buffer : Bytes) where
   unfoldable pub beginRefused : ℕ

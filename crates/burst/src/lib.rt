@@ -1,4 +1,4 @@
-// The recorder of bursts (01, "Recorder").
+// The burst file: its editions, its sealed parts, and the recorder (01, "The burst file", "Recorder").
 use icepole::KEY_LENGTH;
 use icepole::Opened;
 use icepole::SECRET_LENGTH;
@@ -6,7 +6,7 @@ use icepole::Variant;
 ghost use mathlib.Core.Path.{_≡_};
 ghost use mathlib.Core.List.{_++_};
 ghost use Prim.Native.Nat.{_+_, _-_, _*_, _≤_, _<_, _^_};
-ghost use lib.ListN.{length, take};
+ghost use lib.ListN.{length, take, replicate};
 ghost use Rattle.bytes_le.specs.Bytes.{putBytes};
 ghost use Rattle.burst.specs.Editions.{Known, numbered, written, maxEntries, maxHeader};
 ghost use Rattle.burst.specs.Parts.{sealLength, nonceOf, sealPart, partAnswer, partOutput};
@@ -42,6 +42,8 @@ pub struct Edition {
 }
 
 // Edition 1.
+const NUMBER_1: u16 = 1;
+
 const HEADER_1: u32 = 32;
 
 const SHOTS_1: u16 = 60;
@@ -50,13 +52,13 @@ const SHOTS_1: u16 = 60;
 const EDITION_COUNT: usize = 1;
 
 const EDITIONS: [Edition; EDITION_COUNT] = [Edition {
-    number: 1,
+    number: NUMBER_1,
     header: HEADER_1,
     shots: SHOTS_1,
 }];
 
 // The number of the edition that the writer makes.
-const WRITTEN: u16 = 1;
+const WRITTEN: u16 = NUMBER_1;
 
 // Bytes of the header's nine fields, with which it starts in every edition.
 pub const FIELDS_LENGTH: usize = 32;
@@ -78,7 +80,7 @@ pub const SEAL_LENGTH: u32 = 32;
 
 // What names a burst under its key: its number.
 pub struct Name {
-    pub burst: u64,
+    pub burst_number: u64,
 }
 
 // An index entry: the record's offset in the file and the picture's length. `zeros` is the entry's field that is always zero.
@@ -125,26 +127,26 @@ pub struct Closed {
 }
 
 // Whether an entry obeys the index rules, after one of shot number `last`, and with its record at `offset`.
-pub fn entry_ok(last: Shot, offset: u32, taken: Shot, e: Entry) -> bool
-    ensures { λ b. ⌜ b ≡ entryRules (last .0) offset (taken .0) e ⌝ }
+pub fn entry_ok(last: Shot, offset: u32, taken: Shot, x: Entry) -> bool
+    ensures { λ b. ⌜ b ≡ entryRules (last .0) offset (taken .0) x ⌝ }
 {
-    let shot = e.shot;
+    let shot = x.shot;
     if shot.0 <= last.0 {
         return false;
     }
     if shot.0 > taken.0 {
         return false;
     }
-    if e.zeros != 0 {
+    if x.zeros != 0 {
         return false;
     }
-    if e.offset != offset {
+    if x.offset != offset {
         return false;
     }
-    if e.length < 1 {
+    if x.length < 1 {
         return false;
     }
-    e.length <= MAX_PICTURE
+    x.length <= MAX_PICTURE
 }
 
 // The row of an edition number; a number that no row has gives edition 1.
@@ -164,7 +166,7 @@ pub fn edition_numbered(number: u16) -> Edition
 }
 
 // The row that the writer makes, from the key's length.
-fn edition_for(key: usize) -> Edition
+fn edition_written(key: usize) -> Edition
     ensures { λ e. ⌜ (e ≡ written key) × Known e ⌝ }
 {
     edition_numbered(WRITTEN)
@@ -175,7 +177,7 @@ fn edition_of(r: Recorder) -> Edition
     ensures { λ e. ⌜ (e ≡ editionOf r) × Known e ⌝ }
 {
     let key = r.key;
-    edition_for(key.len())
+    edition_written(key.len())
 }
 
 // The name of a recorder's burst.
@@ -183,7 +185,7 @@ fn name_of(r: Recorder) -> Name
     ensures { λ n. ⌜ n ≡ nameOf r ⌝ }
 {
     Name {
-        burst: r.burst_number,
+        burst_number: r.burst_number,
     }
 }
 
@@ -226,16 +228,10 @@ fn sixteen(s: &[u8]) -> [u8; 16]
     a
 }
 
-fn new_recorder(
-    key: [u8; 16],
-    burst_number: u64,
-    site_mark: [u8; 16],
-    used: u32,
-    closed: bool,
-) -> Recorder
-    ensures { λ r. ⌜ r ≡ newRecorder key (record { name = record { burst = «burst_number» }; siteMark = «site_mark» }) used closed ⌝ }
+fn new_recorder(key: [u8; 16], name: Name, site_mark: [u8; 16], used: u32, closed: bool) -> Recorder
+    ensures { λ r. ⌜ r ≡ newRecorder key (record { name = name; siteMark = «site_mark» }) used closed ⌝ }
 {
-    let e = Entry {
+    let none = Entry {
         shot: Shot(0),
         zeros: 0,
         offset: 0,
@@ -243,12 +239,12 @@ fn new_recorder(
     };
     Recorder {
         key,
-        burst_number,
+        burst_number: name.burst_number,
         site_mark,
         taken: Shot(0),
         kept: Place(0),
         used,
-        entries: [e; MAX_ENTRIES],
+        entries: [none; MAX_ENTRIES],
         closed,
     }
 }
@@ -272,16 +268,16 @@ fn begin_number(e: Edition, key: usize, site_mark: usize, buffer: usize) -> u32
 
 pub fn begin(key: &[u8], burst_number: u64, site_mark: &[u8], buffer: &mut [u8]) -> Begun
     ensures { λ r. ⌜
-        (r ≡ beginAnswer (now (key .entry)) (record { name = record { burst = «burst_number» }; siteMark = now («site_mark» .entry) }) (now (buffer .entry))) ×
-        (now (buffer .exit) ≡ beginBuffer (now (key .entry)) (record { name = record { burst = «burst_number» }; siteMark = now («site_mark» .entry) }) (now (buffer .entry))) ⌝ }
+        (r ≡ beginAnswer (now (key .entry)) (record { name = record { «burst_number» = «burst_number» }; siteMark = now («site_mark» .entry) }) (now (buffer .entry))) ×
+        (now (buffer .exit) ≡ beginBuffer (now (key .entry)) (record { name = record { «burst_number» = «burst_number» }; siteMark = now («site_mark» .entry) }) (now (buffer .entry))) ⌝ }
 {
-    let e = edition_for(key.len());
+    let e = edition_written(key.len());
     let number = begin_number(e, key.len(), site_mark.len(), buffer.len());
     if number != 0 {
         return Begun {
             refusal: number,
             mark: 0,
-            recorder: new_recorder([0u8; 16], 0, [0u8; 16], 0, true),
+            recorder: new_recorder([0u8; 16], Name { burst_number: 0 }, [0u8; 16], 0, true),
         };
     }
     let zeros = [0u8; MAX_HEADER];
@@ -292,7 +288,7 @@ pub fn begin(key: &[u8], burst_number: u64, site_mark: &[u8], buffer: &mut [u8])
     Begun {
         refusal: 0,
         mark: 0,
-        recorder: new_recorder(k, burst_number, m, e.header, false),
+        recorder: new_recorder(k, Name { burst_number }, m, e.header, false),
     }
 }
 
@@ -345,7 +341,7 @@ fn nonce_of(e: Edition, name: Name, shot: Shot) -> [u8; 16]
     ensures { λ r. ⌜ r ≡ nonceOf e name (shot .0) ⌝ }
 {
     let mut a = [0u8; 16];
-    let i = bytes_le::store_le(&mut a, 0, 8, name.burst);
+    let i = bytes_le::store_le(&mut a, 0, 8, name.burst_number);
     bytes_le::store_le(&mut a, i, 2, shot.0 as u64);
     a
 }
@@ -418,23 +414,23 @@ pub fn open_part(
     icepole::open_message(Variant::Icepole128, key, &nonce, first, second, sealed, out)
 }
 
-// Puts an entry's twelve bytes into out from index at on; returns the index behind them.
-fn put_entry(out: &mut [u8], at: usize, e: Entry) -> usize
-    requires { ⌜ at + 12 ≤ length (now out) ⌝ }
-    ensures { λ r. ⌜ (r ≡ at + 12) × (now (out .exit) ≡ putBytes (now (out .entry)) at (bytesOfEntry e)) ⌝ }
+// Puts an entry's bytes into out from index at on; returns the index behind them.
+fn put_entry(out: &mut [u8], at: usize, x: Entry) -> usize
+    requires { ⌜ at + entryLength ≤ length (now out) ⌝ }
+    ensures { λ r. ⌜ (r ≡ at + entryLength) × (now (out .exit) ≡ putBytes (now (out .entry)) at (bytesOfEntry x)) ⌝ }
 {
-    let s = e.shot;
+    let s = x.shot;
     let i = bytes_le::store_le(out, at, 2, s.0 as u64);
-    let j = bytes_le::store_le(out, i, 2, e.zeros as u64);
-    let k = bytes_le::store_le(out, j, 4, e.offset as u64);
-    bytes_le::store_le(out, k, 4, e.length as u64)
+    let j = bytes_le::store_le(out, i, 2, x.zeros as u64);
+    let k = bytes_le::store_le(out, j, 4, x.offset as u64);
+    bytes_le::store_le(out, k, 4, x.length as u64)
 }
 
-fn entry_bytes(e: Entry) -> [u8; 12]
-    ensures { λ r. ⌜ r ≡ bytesOfEntry e ⌝ }
+fn entry_bytes(x: Entry) -> [u8; ENTRY_LENGTH]
+    ensures { λ r. ⌜ r ≡ bytesOfEntry x ⌝ }
 {
-    let mut a = [0u8; 12];
-    put_entry(&mut a, 0, e);
+    let mut a = [0u8; ENTRY_LENGTH];
+    put_entry(&mut a, 0, x);
     a
 }
 
@@ -469,7 +465,7 @@ fn keep_number(e: Edition, r: Recorder, stamp: usize, picture: usize, buffer: us
 // The entry of a recorder's next picture.
 fn next_entry(r: Recorder, length: u32) -> Entry
     requires { ⌜ r .taken .0 < maxEntries ⌝ }
-    ensures { λ e. ⌜ e ≡ entryOf (r .taken .0 + 1) (r .used) length ⌝ }
+    ensures { λ x. ⌜ x ≡ entryOf (r .taken .0 + 1) (r .used) length ⌝ }
 {
     Entry {
         shot: Shot(r.taken.0 + 1),
@@ -507,16 +503,16 @@ fn with_picture(r: Recorder, length: u32) -> Recorder
     requires { ⌜ (r .taken .0 < maxEntries) × (r .kept .0 < maxEntries) × (r .used + length + sealLength < 2 ^ 32) ⌝ }
     ensures { λ n. ⌜ n ≡ afterKeep r length ⌝ }
 {
-    let e = next_entry(r, length);
+    let x = next_entry(r, length);
     let place = r.kept.0 as usize;
     let kept = Place(r.kept.0 + 1);
     let used = r.used + length + SEAL_LENGTH;
-    let shot = e.shot;
+    let shot = x.shot;
     let mut next = r;
     next.taken = shot;
     next.kept = kept;
     next.used = used;
-    next.entries[place] = e;
+    next.entries[place] = x;
     next
 }
 
@@ -541,17 +537,17 @@ pub fn keep(r: Recorder, stamp: &[u8], picture: &[u8], buffer: &mut [u8]) -> Sho
     }
 }
 
-// Bytes of the index, one entry for each kept picture. It takes a place, so that no count of shots can be handed in.
+// Bytes of the entries before a place: with kept for the place, those of the whole index. No count of shots can be handed in.
 pub fn index_length(kept: Place) -> usize
     ensures { λ n. ⌜ n ≡ entryLength * kept .0 ⌝ }
 {
     ENTRY_LENGTH * (kept.0 as usize)
 }
 
-// The header of a recorder's file, at the front of what is returned.
+// The header of a recorder's file, and zeros behind it.
 fn header_of(e: Edition, r: Recorder) -> [u8; MAX_HEADER]
     requires { ⌜ Known e × (r .kept .0 ≤ r .taken .0) × (r .used + entryLength * r .kept .0 + sealLength < 2 ^ 32) ⌝ }
-    ensures { λ h. ⌜ (length h ≡ maxHeader) × (take (e .header) h ≡ headerBytes e (nameOf r) (r .taken .0) (r .kept .0) (r .taken .0 - r .kept .0) (r .used)) ⌝ }
+    ensures { λ h. ⌜ h ≡ headerBytes e (nameOf r) (r .taken .0) (r .kept .0) (r .taken .0 - r .kept .0) (r .used) ++ replicate (maxHeader - e .header) 0 ⌝ }
 {
     let taken = r.taken.0;
     let kept = r.kept.0;
@@ -573,18 +569,18 @@ fn header_of(e: Edition, r: Recorder) -> [u8; MAX_HEADER]
 // The index of a recorder's file, at the front of what is returned.
 fn index_of(r: Recorder) -> [u8; MAX_INDEX]
     requires { ⌜ r .kept .0 ≤ maxEntries ⌝ }
-    ensures { λ x. ⌜ (length x ≡ maxIndex) × (take (entryLength * r .kept .0) x ≡ recorderIndex r) ⌝ }
+    ensures { λ b. ⌜ (length b ≡ maxIndex) × (take (entryLength * r .kept .0) b ≡ recorderIndex r) ⌝ }
 {
     let n = r.kept.0 as usize;
-    let mut x = [0u8; MAX_INDEX];
+    let mut b = [0u8; MAX_INDEX];
     let mut i: usize = 0;
     let mut at: usize = 0;
     while i < n {
-        let e = r.entries[i];
-        at = put_entry(&mut x, at, e);
+        let x = r.entries[i];
+        at = put_entry(&mut b, at, x);
         i += 1;
     }
-    x
+    b
 }
 
 // Writes header, index and closing seal of a recorder's file, from the header's and the index's bytes.

@@ -1,5 +1,6 @@
 // The C calls of include/burst.h.
 use burst::Place;
+use burst::SEAL_LENGTH;
 use icepole::OUTPUT_TOO_SHORT;
 use reader::Checked;
 use reader::Fetched;
@@ -27,7 +28,7 @@ pub extern "C" fn burst_replay(
     answers: &mut [u8],
 ) -> usize
     ensures { λ n. ⌜ Replayed
-        (listOf (now (key .entry)) (record { name = record { burst = «burst_number» }; siteMark = now («site_mark» .entry) }) (length (now (buffer .entry))) (length (now (answers .entry))) (now (script .entry)))
+        (listOf (now (key .entry)) (record { name = record { «burst_number» = «burst_number» }; siteMark = now («site_mark» .entry) }) (length (now (buffer .entry))) (length (now (answers .entry))) (now (script .entry)))
         (now (answers .entry)) (now (answers .exit)) (now (buffer .entry)) (now (buffer .exit)) n ⌝ }
 {
     replay::replay(key, burst_number, site_mark, script, buffer, answers)
@@ -131,7 +132,7 @@ pub extern "C" fn burst_record(
     }
     let e = reader::entry_at(file, l.position);
     *offset = e.offset;
-    *size = e.length + 32;
+    *size = e.length + SEAL_LENGTH;
     0
 }
 

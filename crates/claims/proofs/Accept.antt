@@ -27,16 +27,16 @@ use Rattle.burst.proofs.Rules.{and-true, index-used}
 use Rattle.burst.proofs.Numbers.{keep-0, drop-0, close-0, begin-0}
 use Rattle.burst.proofs.Parts.{part-sealed, length-mark, length-body, mark-bytes, body-bytes}
 use Rattle.reader.specs.declared.Checked.{Checked}
-use Rattle.reader.specs.Front.{rowOf, nameIn, allZero, restRules, takenIn, keptIn, droppedIn, indexOffsetIn, entryAt, entriesAt}
+use Rattle.reader.specs.Front.{editionIn, nameIn, allZero, restRules, takenIn, keptIn, droppedIn, indexOffsetIn, entryAt, entriesAt}
 use Rattle.reader.specs.Reader.{closingPart, recordPart, recordParts, agrees, markIn, bodyIn, firstDiffering, checkNumber, checkAnswer}
 use Rattle.reader.proofs.Rules.{Front, entries-obey, entries-end}
 use Rattle.reader.proofs.Parts.{first-agrees}
 use Rattle.reader.proofs.Answers.{Accepted, accepted as obeyed}
 use Rattle.trace.proofs.Shots.{Valid, pictures-gaps, pictures-append, used-least, used-append}
 use Rattle.trace.proofs.Agreement.{with}
-use Rattle.claims.specs.Demand3.{TypedCalls, Genuine, Accepts, GivenBack, burstIn, Reads}
+use Rattle.claims.specs.Demand3.{TypedCalls, Genuine, Accepts, GivenBack, burstIn, Reads, nameGiven}
 use Rattle.claims.proofs.Lists.{fine}
-use Rattle.claims.proofs.Back.{gives-back, file-row}
+use Rattle.claims.proofs.Back.{gives-back}
 
 -- ---- bytes and their numbers
 le-unle : (bs : Bytes) → AllBytes bs → le (length bs) (unle bs) ≡ bs
@@ -136,14 +136,14 @@ module _ (key f : Bytes) (fb : AllBytes f) (taken end : ℕ) (he : end ≤ lengt
     pub valid : Valid xs
     pub ends : usedBy at xs ≡ end
     pub indexed : index n at xs ≡ take (12 * j) (drop pos f)
-    pub recorded : records (rowOf f) key (nameIn f) n at xs ≡ take (end - at) (drop at f)
+    pub recorded : records (editionIn f) key (nameIn f) n at xs ≡ take (end - at) (drop at f)
     pub bytes : ShotBytes xs
 
   record OneRecord (pos n at : ℕ) : Type 0 where
     pub stamp : length (stampAt pos) ≡ 16
     pub picture : length (pictureIn pos) ≡ sizeAt pos
     pub entry : entryBytes n 0 at (sizeAt pos) ≡ take 12 (drop pos f)
-    pub record-is : recordBytes (rowOf f) key (nameIn f) n at (stampAt pos) (pictureIn pos) ≡ take (sizeAt pos + 32) (drop at f)
+    pub record-is : recordBytes (editionIn f) key (nameIn f) n at (stampAt pos) (pictureIn pos) ≡ take (sizeAt pos + 32) (drop at f)
     pub stamp-bytes : AllBytes (stampAt pos)
     pub picture-bytes : AllBytes (pictureIn pos)
 
@@ -151,7 +151,7 @@ module _ (key f : Bytes) (fb : AllBytes f) (taken end : ℕ) (he : end ≤ lengt
       → agrees key f (recordPart f pos) ≡ true → OneRecord pos n at
   unfolding agrees markIn bodyIn recordBytes
   one-record pos n at hp ha e₁ e₂ e₃ o =
-      let e = rowOf f in
+      let e = editionIn f in
       let name = nameIn f in
       let len = sizeAt pos in
       let ad = take 12 (drop pos f) in
@@ -215,8 +215,8 @@ module _ (key f : Bytes) (fb : AllBytes f) (taken end : ℕ) (he : end ≤ lengt
       ap₂ (λ (l : Bytes) (k : ℕ). l ++ index (n + 1) k ys) (ap (entryBytes n 0 at) lm ∙ o .entry) q
       ∙ ap (λ (l : Bytes). take 12 (drop pos f) ++ l) (b .indexed ∙ ap (take (12 * j)) (sym (drop-drop 12 pos f)))
       ∙ sym (ap (λ (k : ℕ). take k (drop pos f)) q₁ ∙ take-add 12 (12 * j) (drop pos f)) in
-      let rc : recordBytes (rowOf f) key (nameIn f) n at s p ++ records (rowOf f) key (nameIn f) (n + 1) (at + length p + 32) ys ≡ take (end - at) (drop at f) =
-      ap₂ (λ (l : Bytes) (k : ℕ). l ++ records (rowOf f) key (nameIn f) (n + 1) k ys) (o .record-is) q
+      let rc : recordBytes (editionIn f) key (nameIn f) n at s p ++ records (editionIn f) key (nameIn f) (n + 1) (at + length p + 32) ys ≡ take (end - at) (drop at f) =
+      ap₂ (λ (l : Bytes) (k : ℕ). l ++ records (editionIn f) key (nameIn f) (n + 1) k ys) (o .record-is) q
       ∙ ap (λ (l : Bytes). take (len + 32) (drop at f) ++ l) (b .recorded ∙ ap (take (end - (at + len + 32))) (ap (λ (k : ℕ). drop k f) (sym q₃) ∙ sym (drop-drop (len + 32) at f)))
       ∙ sym (ap (λ (k : ℕ). take k (drop at f)) q₂ ∙ take-add (len + 32) (end - (at + len + 32)) (drop at f)) in
       let l₁ = w .0 .least in
@@ -305,11 +305,11 @@ rest-bytes f e name k h z =
     ∙ ap₂ (λ (x y : Bytes). x ++ y) (take-take fieldsLength (e .header) f g) (zeros-are _ z ∙ ap (λ (n : ℕ). replicate n 0) l)
 
 header-bytes : (e : Edition) → Known e → (name : Name) (f : Bytes) → AllBytes f → e .header ≤ length f → restRules e f ≡ true
-    → (t k d u : ℕ) → leAt 2 f 0 ≡ e .number → leAt 2 f 2 ≡ t → leAt 2 f 4 ≡ k → leAt 2 f 6 ≡ d → leAt 8 f 8 ≡ name .burst → leAt 4 f 16 ≡ e .header → leAt 4 f 20 ≡ u
+    → (t k d u : ℕ) → leAt 2 f 0 ≡ e .number → leAt 2 f 2 ≡ t → leAt 2 f 4 ≡ k → leAt 2 f 6 ≡ d → leAt 8 f 8 ≡ name .«burst_number» → leAt 4 f 16 ≡ e .header → leAt 4 f 20 ≡ u
     → leAt 4 f 24 ≡ u + 12 * k → leAt 4 f 28 ≡ u + 12 * k + 32 → headerBytes e name t k d u ≡ take (e .header) f
 unfolding headerBytes
 header-bytes e known name f fb h z t k d u e₀ e₁ e₂ e₃ e₄ e₅ e₆ e₇ e₈ =
-    let n = name .burst in
+    let n = name .«burst_number» in
     let w = known .least in
     let rb = rest-bytes f e name known h z in
     let g₀ : le 2 (e .number) ≡ take 2 f = ap (le 2) (sym e₀) ∙ le-at f fb 2 0 (omega arith) in
@@ -360,10 +360,10 @@ module _ (key f : Bytes) (kb : AllBytes key) (fb : AllBytes f) (ok : Accepted ke
   abbrev xs : List Shot
   xs = build key f fb (takenIn f) i within (takenIn f) k 1 i
 
-  made : Built key f fb (takenIn f) i within xs (takenIn f) k 1 i (rowOf f .header)
+  made : Built key f fb (takenIn f) i within xs (takenIn f) k 1 i (editionIn f .header)
   made =
-      built key f fb (takenIn f) i within (takenIn f) k 1 i 0 (rowOf f .header) (omega arith) (omega arith) (fr .index)
-      (ahead key f fb (takenIn f) i within k i 0 (rowOf f .header) 1 (omega arith) (fr .index)) (let w = end-is in omega arith) (ok .records)
+      built key f fb (takenIn f) i within (takenIn f) k 1 i 0 (editionIn f .header) (omega arith) (omega arith) (fr .index)
+      (ahead key f fb (takenIn f) i within k i 0 (editionIn f .header) 1 (omega arith) (fr .index)) (let w = end-is in omega arith) (ok .records)
 
   abbrev m : Bytes
   m = markIn key f (closingPart f)
@@ -378,26 +378,26 @@ module _ (key f : Bytes) (kb : AllBytes key) (fb : AllBytes f) (ok : Accepted ke
   last-length = ap length all-of-last ∙ last
 
   abbrev ad : Bytes
-  ad = take (rowOf f .header) f ++ take (12 * k) (drop i f)
+  ad = take (editionIn f .header) f ++ take (12 * k) (drop i f)
 
   abbrev c : Bytes
   c = take (0 + 32) (drop (i + 12 * k) f)
 
   site16 : length m ≡ 16
   unfolding markIn
-  site16 = length-mark (rowOf f) key (nameIn f) 0 ad c (let w = last-length in omega arith)
+  site16 = length-mark (editionIn f) key (nameIn f) 0 ad c (let w = last-length in omega arith)
 
   site-bytes : AllBytes m
   unfolding markIn
-  site-bytes = mark-bytes (rowOf f) key (nameIn f) 0 ad c (all-take (0 + 32) (drop (i + 12 * k) f) (all-drop (i + 12 * k) f fb))
+  site-bytes = mark-bytes (editionIn f) key (nameIn f) 0 ad c (all-take (0 + 32) (drop (i + 12 * k) f) (all-drop (i + 12 * k) f fb))
 
-  closing-is : sealPart (rowOf f) key (nameIn f) 0 m ad [] ≡ drop (i + 12 * k) f
+  closing-is : sealPart (editionIn f) key (nameIn f) 0 m ad [] ≡ drop (i + 12 * k) f
   unfolding agrees markIn
   closing-is =
       let l = last-length in
-      let e = length-body (rowOf f) key (nameIn f) 0 ad c (omega arith) in
-      let z : partBody (rowOf f) key (nameIn f) 0 ad c ≡ [] = length-zero _ (e ∙ (let y : length c - sealLength ≡ 0 = omega arith in y)) in
-      ap (sealPart (rowOf f) key (nameIn f) 0 m ad) (sym z) ∙ sym (part-sealed (rowOf f) key (nameIn f) 0 ad c (omega arith) (ok .closing)) ∙ all-of-last
+      let e = length-body (editionIn f) key (nameIn f) 0 ad c (omega arith) in
+      let z : partBody (editionIn f) key (nameIn f) 0 ad c ≡ [] = length-zero _ (e ∙ (let y : length c - sealLength ≡ 0 = omega arith in y)) in
+      ap (sealPart (editionIn f) key (nameIn f) 0 m ad) (sym z) ∙ sym (part-sealed (editionIn f) key (nameIn f) 0 ad c (omega arith) (ok .closing)) ∙ all-of-last
 
   abbrev who : Identity
   who = record { name = nameIn f; siteMark = m }
@@ -408,10 +408,10 @@ module _ (key f : Bytes) (kb : AllBytes key) (fb : AllBytes f) (ok : Accepted ke
   abbrev p : Plain
   p = record { key = key; identity = who; shots = xs; closed = true }
 
-  begins-0 : beginRefusal (rowOf f) l ≡ 0
-  begins-0 = sym (begin-0 (rowOf f) (length key) (length m) (length f) (ok .key16) site16 (fr .least))
+  begins-0 : beginRefusal (editionIn f) l ≡ 0
+  begins-0 = sym (begin-0 (editionIn f) (length key) (length m) (length f) (ok .key16) site16 (fr .least))
 
-  plain-is : plainOf (rowOf f) l ≡ p
+  plain-is : plainOf (editionIn f) l ≡ p
   unfolding plainOf begun
   plain-is =
       let b = made in
@@ -420,33 +420,33 @@ module _ (key f : Bytes) (kb : AllBytes key) (fb : AllBytes f) (ok : Accepted ke
       let c₃ = b .size in
       let w = end-is in
       let c₄ = fr .most in
-      simp begins-0 (runs (rowOf f) p (length f) xs [] (b .valid) (omega arith) (omega arith))
+      simp begins-0 (runs (editionIn f) p (length f) xs [] (b .valid) (omega arith) (omega arith))
 
-  heads : headerBytes (rowOf f) (nameIn f) (length xs) (pictures xs) (gaps xs) (usedBy (rowOf f .header) xs) ≡ take (rowOf f .header) f
+  heads : headerBytes (editionIn f) (nameIn f) (length xs) (pictures xs) (gaps xs) (usedBy (editionIn f .header) xs) ≡ take (editionIn f .header) f
   heads =
       let b = made in
       let g : gaps xs ≡ droppedIn f = let c₁ = b .kept in let c₂ = b .size in let c₃ = fr .counts in let c₄ = pictures-gaps xs in omega arith in
-      let e : headerBytes (rowOf f) (nameIn f) (takenIn f) k (droppedIn f) i ≡ take (rowOf f .header) f =
-      header-bytes (rowOf f) (fr .known) (nameIn f) f fb (let a = fr .least in omega arith) (fr .rest) (takenIn f) k (droppedIn f) i (fr .edition) refl refl refl refl (fr .pictures) refl (fr .closing)
+      let e : headerBytes (editionIn f) (nameIn f) (takenIn f) k (droppedIn f) i ≡ take (editionIn f .header) f =
+      header-bytes (editionIn f) (fr .known) (nameIn f) f fb (let a = fr .least in omega arith) (fr .rest) (takenIn f) k (droppedIn f) i (fr .edition) refl refl refl refl (fr .pictures) refl (fr .closing)
       (fr .total ∙ ap (λ (n : ℕ). n + 32) (fr .closing)) in
       cc (b .size, b .kept, g, b .ends, e)
 
-  file-is : fileOf (rowOf f) p ≡ f
+  file-is : fileOf (editionIn f) p ≡ f
   unfolding fileOf headerOf indexOf closingSeal
   file-is =
       let b = made in
-      let hd = headerBytes (rowOf f) (nameIn f) (length xs) (pictures xs) (gaps xs) (usedBy (rowOf f .header) xs) in
-      let ix = index 1 (rowOf f .header) xs in
-      let e₁ : hd ≡ take (rowOf f .header) f = heads in
+      let hd = headerBytes (editionIn f) (nameIn f) (length xs) (pictures xs) (gaps xs) (usedBy (editionIn f .header) xs) in
+      let ix = index 1 (editionIn f .header) xs in
+      let e₁ : hd ≡ take (editionIn f .header) f = heads in
       let e₂ : ix ≡ take (12 * k) (drop i f) = b .indexed in
-      let e₃ : records (rowOf f) key (nameIn f) 1 (rowOf f .header) xs ≡ take (i - rowOf f .header) (drop (rowOf f .header) f) = b .recorded in
-      let cl : sealPart (rowOf f) key (nameIn f) 0 m (hd ++ ix) [] ≡ drop (i + 12 * k) f =
-      ap₂ (λ (x y : Bytes). sealPart (rowOf f) key (nameIn f) 0 m (x ++ y) []) e₁ e₂ ∙ closing-is in
+      let e₃ : records (editionIn f) key (nameIn f) 1 (editionIn f .header) xs ≡ take (i - editionIn f .header) (drop (editionIn f .header) f) = b .recorded in
+      let cl : sealPart (editionIn f) key (nameIn f) 0 m (hd ++ ix) [] ≡ drop (i + 12 * k) f =
+      ap₂ (λ (x y : Bytes). sealPart (editionIn f) key (nameIn f) 0 m (x ++ y) []) e₁ e₂ ∙ closing-is in
       let d₁ : take (12 * k) (drop i f) ++ drop (i + 12 * k) f ≡ drop i f = ap (λ (r : Bytes). take (12 * k) (drop i f) ++ r) (sym (drop-drop (12 * k) i f)) ∙ take-append-drop (12 * k) (drop i f) in
-      let q : rowOf f .header + (i - rowOf f .header) ≡ i = let a = at-most key f fb (takenIn f) i within k i 0 (rowOf f .header) (fr .index) in omega arith in
-      let d₂ : take (i - rowOf f .header) (drop (rowOf f .header) f) ++ drop i f ≡ drop (rowOf f .header) f =
-      ap (λ (r : Bytes). take (i - rowOf f .header) (drop (rowOf f .header) f) ++ r) (ap (λ (n : ℕ). drop n f) (sym q) ∙ sym (drop-drop (i - rowOf f .header) (rowOf f .header) f)) ∙ take-append-drop (i - rowOf f .header) (drop (rowOf f .header) f) in
-      let d₃ : take (rowOf f .header) f ++ drop (rowOf f .header) f ≡ f = take-append-drop (rowOf f .header) f in
+      let q : editionIn f .header + (i - editionIn f .header) ≡ i = let a = at-most key f fb (takenIn f) i within k i 0 (editionIn f .header) (fr .index) in omega arith in
+      let d₂ : take (i - editionIn f .header) (drop (editionIn f .header) f) ++ drop i f ≡ drop (editionIn f .header) f =
+      ap (λ (r : Bytes). take (i - editionIn f .header) (drop (editionIn f .header) f) ++ r) (ap (λ (n : ℕ). drop n f) (sym q) ∙ sym (drop-drop (i - editionIn f .header) (editionIn f .header) f)) ∙ take-append-drop (i - editionIn f .header) (drop (editionIn f .header) f) in
+      let d₃ : take (editionIn f .header) f ++ drop (editionIn f .header) f ≡ f = take-append-drop (editionIn f .header) f in
       cc (e₁, e₂, e₃, cl, d₁, d₂, d₃)
 
   short : length f < 2 ^ 63
@@ -454,7 +454,7 @@ module _ (key f : Bytes) (kb : AllBytes key) (fb : AllBytes f) (ok : Accepted ke
 
   pub file-of : Genuine key f
   file-of = record {
-    edition = rowOf f;
+    edition = editionIn f;
     list = l;
     filed = record {
       listed = numbered-among _;
@@ -463,7 +463,7 @@ module _ (key f : Bytes) (kb : AllBytes key) (fb : AllBytes f) (ok : Accepted ke
     };
     typed = record { key = kb; siteMark = site-bytes; buffer = short; calls = typed-calls xs (made .bytes) };
     keyed = refl;
-    file = ap (fileOf (rowOf f)) plain-is ∙ file-is;
+    file = ap (fileOf (editionIn f)) plain-is ∙ file-is;
   }
 
 check-number : (key f : Bytes) → checkAnswer key f .refusal ≡ checkNumber key f
@@ -494,13 +494,12 @@ reads key f kb fb h =
     let g = subst (λ (x : Bytes). GivenBack ed key x p) (w .file) (subst (λ (x : Bytes). GivenBack ed x (fileOf ed p) p) (w .keyed) g₀) in
     let c = g .checked in
     let fp = fine ed (w .list) (w .filed .reached) in
-    let own : rowOf f ≡ ed = ap rowOf (sym (w .file)) ∙ file-row ed (w .list) (w .filed) in
     record {
       counts = ap (λ (x : Checked). x .taken) c ∙ g .counts ∙ sym (ap₂ (λ (a b : ℕ). a + b) (ap (λ (x : Checked). x .kept) c) (ap (λ (x : Checked). x .dropped) c));
       file =
-          ap (λ (x : Edition). fileOf x (burstIn key f)) own
+          ap (λ (x : Edition). fileOf x (burstIn key f)) (g .edition)
           ∙ same-file ed (burstIn key f) p (sym (fp .key ∙ w .keyed))
-          (ap₂ (λ (n : ℕ) (m : Bytes). let i : Identity = record { name = record { burst = n }; siteMark = m } in i) (ap (λ (x : Checked). x .«burst_number») c) (ap (λ (x : Checked). x .«site_mark») c))
+          (ap (λ (x : Checked). let i : Identity = record { name = nameGiven x; siteMark = x .«site_mark» } in i) c)
           (g .shots)
           ∙ w .file;
     }

@@ -25,14 +25,14 @@ use Rattle.burst.proofs.Puts.{length-header}
 use Rattle.burst.proofs.Parts.{part-agrees, part-mark}
 use Rattle.reader.specs.declared.Checked.{Checked}
 use Rattle.reader.specs.declared.Fetched.{Fetched}
-use Rattle.reader.specs.Front.{rowOf, nameIn, headerIn, takenIn, keptIn, indexOffsetIn, entryAt, entriesAt, positionOf, frontRules}
+use Rattle.reader.specs.Front.{editionIn, nameIn, headerIn, takenIn, keptIn, indexOffsetIn, entryAt, entriesAt, positionOf, frontRules}
 use Rattle.reader.specs.Reader.{closingPart, recordParts, agrees, markIn, firstDiffering, checkNumber, checkMark, checkAnswer, recordNumber, recordOffset, recordBytesIn, notChecked, notFetched, fetchNumber, fetchAnswer, fetchOutput}
 use Rattle.reader.proofs.Rules.{front-is, front-at}
 use Rattle.reader.proofs.Answers.{check-not, check-zero, check-0, Found, found, record-zero, record-refused, record-done, fetch-0, fetch-not, fetch-refused}
 use Rattle.trace.specs.Agreement.{editionFor}
 use Rattle.trace.proofs.Agreement.{agreement}
 use Rattle.trace.proofs.Shots.{Valid, pictures-gaps, used-least, used-most, length-index, length-records, length-closing, sound-entries}
-use Rattle.claims.specs.Demand3.{SameBurst, Filed, OneBurst, Picture, pictureAt, whole, readFrom, readShots, GivenBack, GivesBack, OnCard, Withheld, Withholds}
+use Rattle.claims.specs.Demand3.{SameBurst, Filed, OneBurst, Picture, pictureAt, whole, readFrom, readShots, GivenBack, GivesBack, OnCard, Withheld, Withholds, nameGiven}
 use Rattle.claims.proofs.Lists.{fine, zero-or-not}
 use Rattle.claims.proofs.Reading.{HeaderIn, header-in, entries-read, records-agree, Placed, placed, every, below}
 
@@ -73,10 +73,10 @@ module _ (ed : Edition) (known-ed : Known ed) (p : Plain) (valid : Valid (p .sho
   headed : HeaderIn ed known-ed (p .identity .name) f (rs ++ (ix ++ cl)) (length xs) (pictures xs) (gaps xs) u
   headed = let c = pictures-gaps xs in let b = known-ed in header-in ed known-ed (p .identity .name) f _ _ _ _ _ (omega arith) (omega arith) (omega arith) fits bound split
 
-  row : rowOf f ≡ ed
+  row : editionIn f ≡ ed
   row = ap numbered (headed .edition) ∙ known-ed .back
 
-  recorded : drop (ed .header) f ≡ records (rowOf f) (p .key) (nameIn f) 1 (ed .header) xs ++ (ix ++ cl)
+  recorded : drop (ed .header) f ≡ records (editionIn f) (p .key) (nameIn f) 1 (ed .header) xs ++ (ix ++ cl)
   recorded =
       headed .next ∙ ap₂ (λ (x : Edition) (n : Name). records x (p .key) n 1 (ed .header) xs ++ (ix ++ cl)) (sym row) (sym (headed .named))
 
@@ -124,16 +124,16 @@ module _ (ed : Edition) (known-ed : Known ed) (p : Plain) (valid : Valid (p .sho
       let k = p .key in
       let n = p .identity .name in
       let m = p .identity .siteMark in
-      let e₁ : take (rowOf f .header) f ++ take (12 * keptIn f) (drop (indexOffsetIn f) f) ≡ hd ++ ix =
+      let e₁ : take (editionIn f .header) f ++ take (12 * keptIn f) (drop (indexOffsetIn f) f) ≡ hd ++ ix =
       ap₂ (λ (a : Bytes) (n : ℕ). a ++ take (12 * n) (drop (indexOffsetIn f) f)) (ap (λ (x : Edition). take (x .header) f) row ∙ headed .header) (headed .kept)
       ∙ ap (λ (i : ℕ). hd ++ take (12 * pictures xs) (drop i f)) (headed .index) ∙ ap (λ (a : Bytes). hd ++ a) indexed-bytes in
       let e₂ : take (0 + 32) (drop (indexOffsetIn f + 12 * keptIn f) f) ≡ cl =
       ap₂ (λ (i n : ℕ). take (0 + 32) (drop (i + 12 * n) f)) (headed .index) (headed .kept)
       ∙ ap (take (0 + 32)) (closed-at ∙ sym (append-nil cl)) ∙ take-at cl [] (0 + 32) length-cl in (
-        ap₂ (λ (x : Edition) (y : Name). partAgrees x k y 0 (take (rowOf f .header) f ++ take (12 * keptIn f) (drop (indexOffsetIn f) f)) (take (0 + 32) (drop (indexOffsetIn f + 12 * keptIn f) f))) row (headed .named)
+        ap₂ (λ (x : Edition) (y : Name). partAgrees x k y 0 (take (editionIn f .header) f ++ take (12 * keptIn f) (drop (indexOffsetIn f) f)) (take (0 + 32) (drop (indexOffsetIn f + 12 * keptIn f) f))) row (headed .named)
             ∙ ap₂ (partAgrees ed k n 0) e₁ e₂
             ∙ part-agrees ed k n 0 m (hd ++ ix) [] site16,
-        ap₂ (λ (x : Edition) (y : Name). partMark x k y 0 (take (rowOf f .header) f ++ take (12 * keptIn f) (drop (indexOffsetIn f) f)) (take (0 + 32) (drop (indexOffsetIn f + 12 * keptIn f) f))) row (headed .named)
+        ap₂ (λ (x : Edition) (y : Name). partMark x k y 0 (take (editionIn f .header) f ++ take (12 * keptIn f) (drop (indexOffsetIn f) f)) (take (0 + 32) (drop (indexOffsetIn f + 12 * keptIn f) f))) row (headed .named)
             ∙ ap₂ (partMark ed k n 0) e₁ e₂
             ∙ part-mark ed k n 0 m (hd ++ ix) [] site16,
       )
@@ -146,10 +146,10 @@ module _ (ed : Edition) (known-ed : Known ed) (p : Plain) (valid : Valid (p .sho
   accepted : checkNumber (p .key) f ≡ 0
   accepted = check-zero (p .key) f key16 front-holds (closing-opens .0) records-open
 
-  checked : checkAnswer (p .key) f ≡ record { refusal = 0; mark = 0; «burst_number» = p .identity .name .burst; «site_mark» = p .identity .siteMark; taken = length xs; kept = pictures xs; dropped = gaps xs }
+  checked : checkAnswer (p .key) f ≡ record { refusal = 0; mark = 0; «burst_number» = p .identity .name .«burst_number»; «site_mark» = p .identity .siteMark; taken = length xs; kept = pictures xs; dropped = gaps xs }
   checked =
       sym (check-0 (p .key) f key16 front-holds (closing-opens .0) records-open (headerIn f) refl (markIn (p .key) f (closingPart f)) refl)
-      ∙ cc (ap (λ (n : Name). n .burst) (headed .named), headed .taken, headed .kept, headed .dropped, closing-opens .1)
+      ∙ cc (ap (λ (n : Name). n .«burst_number») (headed .named), headed .taken, headed .kept, headed .dropped, closing-opens .1)
 
   -- ---- a place
   place-at : (place : ℕ) (w : Picture) → pictureAt 1 (ed .header) xs place ≡ some w → Placed f (p .key) (length xs) u few (let c = bound in omega arith) (positionOf f place) w
@@ -288,6 +288,7 @@ module _ (ed : Edition) (known-ed : Known ed) (p : Plain) (valid : Valid (p .sho
 
   pub given-back : GivenBack ed (p .key) (fileOf ed p) p
   given-back = record {
+    edition = row ed known-ed p valid most key16 site16 fits;
     checked = checked ed known-ed p valid most key16 site16 fits;
     counts = pictures-gaps (p .shots);
     every = λ place h. every (p .shots) 1 (ed .header) place h;
@@ -312,25 +313,20 @@ on-card l b e n r =
     subst (λ (f : Bytes). GivenBack (editionFor l) (l .key) f (plainOf (editionFor l) l)) (sym (agreement l b e .file r))
     (gives-back (editionFor l) l (record { listed = written-among _; named = n; reached = r }))
 
--- ---- no file belongs to two bursts: its number tells the edition, and both bursts are what is read
-pub file-row : (e : Edition) (l : CallList) → Filed e l → rowOf (fileOf e (plainOf e l)) ≡ e
-file-row e l w =
-    let g = fine e l (w .reached) in
-    row e (known e (w .listed)) (plainOf e l) (g .valid) (g .most) (g .key16) (g .site16) (fits e l w)
-
+-- ---- no file belongs to two bursts: it tells its edition, and both bursts are what is read
 -- what check and fetch give back tells the burst
 same-burst : (e : Edition) (key f : Bytes) (p p′ : Plain) → GivenBack e key f p → GivenBack e key f p′ → SameBurst p p′
 same-burst e key f p p′ g g′ =
     let c = sym (g .checked) ∙ g′ .checked in
     record {
-      name = ap (λ (x : Checked). let n : Name = record { burst = x .«burst_number» } in n) c;
+      name = ap nameGiven c;
       siteMark = ap (λ (x : Checked). x .«site_mark») c;
       shots = sym (g .shots) ∙ g′ .shots;
     }
 
 pub one-burst : OneBurst
 one-burst e e′ l l′ w w′ k q =
-    let s : e ≡ e′ = sym (file-row e l w) ∙ ap rowOf q ∙ file-row e′ l′ w′ in
+    let s : e ≡ e′ = sym (gives-back e l w .edition) ∙ ap editionIn q ∙ gives-back e′ l′ w′ .edition in
     let p = plainOf e l in
     let p′ = plainOf e′ l′ in
     let g′ : GivenBack e (l .key) (fileOf e p) p′ =

@@ -20,7 +20,7 @@ use Rattle.burst.specs.Index.{entryOf}
 use Rattle.burst.specs.Plain.{Shot, kept, gap, pictures, usedBy, records, index}
 use Rattle.burst.proofs.Puts.{length-header}
 use Rattle.burst.proofs.Parts.{part-agrees, part-mark, part-body}
-use Rattle.reader.specs.Front.{rowOf, nameIn, allZero, restRules, editionIn, takenIn, keptIn, droppedIn, pictureOffsetIn, indexOffsetIn, closingOffsetIn, totalIn, entryAt, entriesAt}
+use Rattle.reader.specs.Front.{editionIn, nameIn, allZero, restRules, editionNumberIn, takenIn, keptIn, droppedIn, pictureOffsetIn, indexOffsetIn, closingOffsetIn, totalIn, entryAt, entriesAt}
 use Rattle.reader.specs.Reader.{Part, recordPart, recordParts, agrees, markIn, bodyIn, sealedIn, firstDiffering}
 use Rattle.reader.proofs.Parts.{parts-end, parts-next}
 use Rattle.reader.proofs.Fields.{entry-same}
@@ -78,12 +78,12 @@ module _ (f key : Bytes) (taken end : ℕ) (ht : taken ≤ maxEntries) (he : end
     pub body : bodyIn key f (recordPart f pos) ≡ p
     pub sealed : sealedIn key f (recordPart f pos) ≡ c
 
-  opens-part : (n at : ℕ) (s p rest : Bytes) → length s ≡ 16 → drop at f ≡ recordBytes (rowOf f) key (nameIn f) n at s p ++ rest
+  opens-part : (n at : ℕ) (s p rest : Bytes) → length s ≡ 16 → drop at f ≡ recordBytes (editionIn f) key (nameIn f) n at s p ++ rest
       → (agrees key f (part n at (length p)) ≡ true) × (markIn key f (part n at (length p)) ≡ s) × (bodyIn key f (part n at (length p)) ≡ p)
-      × (sealedIn key f (part n at (length p)) ≡ recordBytes (rowOf f) key (nameIn f) n at s p)
+      × (sealedIn key f (part n at (length p)) ≡ recordBytes (editionIn f) key (nameIn f) n at s p)
   unfolding agrees markIn bodyIn recordBytes
   opens-part n at s p rest hs d =
-      let e = rowOf f in
+      let e = editionIn f in
       let name = nameIn f in
       let ad = entryBytes n 0 at (length p) in
       let t : take (length p + 32) (drop at f) ≡ recordBytes e key name n at s p =
@@ -94,8 +94,8 @@ module _ (f key : Bytes) (taken end : ℕ) (ht : taken ≤ maxEntries) (he : end
         t,
       )
 
-  opens-to : (n at pos : ℕ) (s p rest rest₂ : Bytes) → EntryIn f rest pos n at (length p) → length s ≡ 16 → drop at f ≡ recordBytes (rowOf f) key (nameIn f) n at s p ++ rest₂
-      → OpensTo pos s p (recordBytes (rowOf f) key (nameIn f) n at s p)
+  opens-to : (n at pos : ℕ) (s p rest rest₂ : Bytes) → EntryIn f rest pos n at (length p) → length s ≡ 16 → drop at f ≡ recordBytes (editionIn f) key (nameIn f) n at s p ++ rest₂
+      → OpensTo pos s p (recordBytes (editionIn f) key (nameIn f) n at s p)
   opens-to n at pos s p rest rest₂ w hs d =
       let o = opens-part n at s p rest₂ hs d in
       let e = part-is rest pos n at (length p) w in
@@ -107,19 +107,19 @@ module _ (f key : Bytes) (taken end : ℕ) (ht : taken ≤ maxEntries) (he : end
       }
 
   -- the record of a first kept shot, and the records behind it
-  first-record : (s p : Bytes) (xs : List Shot) (n at : ℕ) (rest : Bytes) → length s ≡ 16 → drop at f ≡ records (rowOf f) key (nameIn f) n at (kept s p ∷ xs) ++ rest
-      → (drop at f ≡ recordBytes (rowOf f) key (nameIn f) n at s p ++ (records (rowOf f) key (nameIn f) (n + 1) (at + length p + 32) xs ++ rest))
-      × (drop (at + length p + 32) f ≡ records (rowOf f) key (nameIn f) (n + 1) (at + length p + 32) xs ++ rest)
+  first-record : (s p : Bytes) (xs : List Shot) (n at : ℕ) (rest : Bytes) → length s ≡ 16 → drop at f ≡ records (editionIn f) key (nameIn f) n at (kept s p ∷ xs) ++ rest
+      → (drop at f ≡ recordBytes (editionIn f) key (nameIn f) n at s p ++ (records (editionIn f) key (nameIn f) (n + 1) (at + length p + 32) xs ++ rest))
+      × (drop (at + length p + 32) f ≡ records (editionIn f) key (nameIn f) (n + 1) (at + length p + 32) xs ++ rest)
   first-record s p xs n at rest hs d =
-      let rb = recordBytes (rowOf f) key (nameIn f) n at s p in
-      let rs = records (rowOf f) key (nameIn f) (n + 1) (at + length p + 32) xs ++ rest in
+      let rb = recordBytes (editionIn f) key (nameIn f) n at s p in
+      let rs = records (editionIn f) key (nameIn f) (n + 1) (at + length p + 32) xs ++ rest in
       let d₃ : drop at f ≡ rb ++ rs = d ∙ append-assoc rb _ rest in
-      let l : length rb ≡ length p + 32 = length-record (rowOf f) key (nameIn f) n at s p hs in
+      let l : length rb ≡ length p + 32 = length-record (editionIn f) key (nameIn f) n at s p hs in
       let q : at + length rb ≡ at + length p + 32 = omega arith in
       (d₃, ap (λ (k : ℕ). drop k f) (sym q) ∙ sym (drop-drop (length rb) at f) ∙ ap (drop (length rb)) d₃ ∙ drop-at rb rs (length rb) refl)
 
   pub records-agree : (xs : List Shot) (n at pos : ℕ) (rest rest₂ : Bytes) → Valid xs → n + length xs ≤ taken + 1 → end ≡ usedBy at xs
-      → drop pos f ≡ index n at xs ++ rest → drop at f ≡ records (rowOf f) key (nameIn f) n at xs ++ rest₂ → firstDiffering key f (recordParts (pictures xs) pos f) ≡ none
+      → drop pos f ≡ index n at xs ++ rest → drop at f ≡ records (editionIn f) key (nameIn f) n at xs ++ rest₂ → firstDiffering key f (recordParts (pictures xs) pos f) ≡ none
   records-agree [] n at pos rest rest₂ v g e d d₂ = parts-end key f pos
   records-agree (kept s p ∷ xs) n at pos rest rest₂ v g e d d₂ =
       let w = first-entry s p xs n at pos rest v g e d in
@@ -131,10 +131,10 @@ module _ (f key : Bytes) (taken end : ℕ) (ht : taken ≤ maxEntries) (he : end
   -- ---- the picture of a place
   pub record Placed (pos : ℕ) (w : Picture) : Type 0 where
     pub entry : entryAt f pos ≡ entryOf (w .shot) (w .offset) (length (w .picture))
-    pub opens : OpensTo pos (w .stamp) (w .picture) (recordBytes (rowOf f) key (nameIn f) (w .shot) (w .offset) (w .stamp) (w .picture))
+    pub opens : OpensTo pos (w .stamp) (w .picture) (recordBytes (editionIn f) key (nameIn f) (w .shot) (w .offset) (w .stamp) (w .picture))
 
   pub placed : (xs : List Shot) (n at pos place : ℕ) (rest rest₂ : Bytes) (w : Picture) → Valid xs → n + length xs ≤ taken + 1 → end ≡ usedBy at xs
-      → drop pos f ≡ index n at xs ++ rest → drop at f ≡ records (rowOf f) key (nameIn f) n at xs ++ rest₂ → pictureAt n at xs place ≡ some w → Placed (pos + 12 * place) w
+      → drop pos f ≡ index n at xs ++ rest → drop at f ≡ records (editionIn f) key (nameIn f) n at xs ++ rest₂ → pictureAt n at xs place ≡ some w → Placed (pos + 12 * place) w
   placed [] n at pos place rest rest₂ w v g e d d₂ h = let z : _≡_ {A = ℕ} 0 1 = cc in absurd (omega arith)
   placed (kept s p ∷ xs) n at pos zero rest rest₂ w v g e d d₂ h =
       let y = first-entry s p xs n at pos rest v g e d in
@@ -169,7 +169,7 @@ all-zero (suc n) = all-zero n
 
 module _ (e : Edition) (known : Known e) (name : Name) where
   pub record HeaderIn (f rest : Bytes) (t k d u : ℕ) : Type 0 where
-    pub edition : editionIn f ≡ e .number
+    pub edition : editionNumberIn f ≡ e .number
     pub taken : takenIn f ≡ t
     pub kept : keptIn f ≡ k
     pub dropped : droppedIn f ≡ d
@@ -194,7 +194,7 @@ module _ (e : Edition) (known : Known e) (name : Name) where
         taken = ap (λ (l : Bytes). unle (take 2 (drop 2 l))) q ∙ unle-2 t ht;
         kept = ap (λ (l : Bytes). unle (take 2 (drop 4 l))) q ∙ unle-2 k hk;
         dropped = ap (λ (l : Bytes). unle (take 2 (drop 6 l))) q ∙ unle-2 d hd;
-        named = ap (λ (b : ℕ). let n : Name = record { burst = b } in n) (ap (λ (l : Bytes). unle (take 8 (drop 8 l))) q ∙ unle-8 (name .burst) hn);
+        named = ap (λ (b : ℕ). let n : Name = record { «burst_number» = b } in n) (ap (λ (l : Bytes). unle (take 8 (drop 8 l))) q ∙ unle-8 (name .«burst_number») hn);
         pictures = ap (λ (l : Bytes). unle (take 4 (drop 16 l))) q ∙ unle-4 (e .header) (omega arith);
         index = ap (λ (l : Bytes). unle (take 4 (drop 20 l))) q ∙ unle-4 u (omega arith);
         closing = ap (λ (l : Bytes). unle (take 4 (drop 24 l))) q ∙ unle-4 (u + 12 * k) (omega arith);

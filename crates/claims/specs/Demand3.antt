@@ -5,9 +5,9 @@
 --   accepts     the reader accepts exactly the files of such lists
 --   gives-back  it then gives back burst number, site mark and the list of shots, with taken = kept + dropped
 --   on-card     so too from the front of the buffer that the list leaves
---   reads       and of every accepted file, what was read back makes that file again
+--   reads       and of every accepted file, what was read back makes that file again, as one of the file's own edition
 --   withholds   otherwise it releases no picture byte
--- A list is read as one of an edition, a row of `editions`; the row that the recorder makes of it is `editionFor`. The cipher is the one that `Parts` of the burst file chooses. Assumes nothing.
+-- A list is read as one of an edition, a row of `editions`; the row that the recorder makes of it is `editionFor`. The cipher is the one that `Parts` of the burst file chooses, ICEPOLE-128. Assumes nothing.
 use mathlib.Core.Bool.{true, _&&_}
 use mathlib.Core.List.{List, [], _∷_}
 use mathlib.Core.Logic.{_↔_, _⊎_}
@@ -19,6 +19,7 @@ use lib.ListN.{length, take, replicate}
 use Rattle.bytes_le.specs.Bytes.{Bytes, AllBytes, putBytes}
 use Rattle.icepole.specs.Sealing.{pick}
 use Rattle.burst.specs.declared.Edition.{Edition}
+use Rattle.burst.specs.declared.Name.{Name}
 use Rattle.burst.specs.Editions.{editions, _among_}
 use Rattle.burst.specs.Parts.{Fits}
 use Rattle.burst.specs.Layout.{maxPicture, recordBytes}
@@ -26,7 +27,8 @@ use Rattle.burst.specs.Numbers.{usedAfter}
 use Rattle.burst.specs.Plain.{Shot, kept, gap, pictures, gaps, Plain, fileOf, Call, keepShot, dropShot, closeBurst, CallList, Answer, plainOf, plainAnswers, totalOf}
 use Rattle.trace.specs.Trace.{runBuffer}
 use Rattle.trace.specs.Agreement.{Reached, editionFor, Agreement}
-use Rattle.reader.specs.Front.{rowOf}
+use Rattle.reader.specs.declared.Checked.{Checked}
+use Rattle.reader.specs.Front.{editionIn}
 use Rattle.reader.specs.Reader.{notChecked, notFetched, checkAnswer, fetchAnswer, fetchOutput, recordNumber, recordOffset, recordBytesIn}
 
 -- ---- an accepted close: one of the list's closes was answered 0
@@ -56,13 +58,13 @@ pub record Filed (e : Edition) (l : CallList) : Type 0 where
   pub named : Fits e (l .identity .name)
   pub reached : Reached e l
 
--- whatever the editions
+-- two lists, each read as one of any row
 abbrev pub OneBurst : Type 0
 OneBurst = (e e′ : Edition) (l l′ : CallList) → Filed e l → Filed e′ l′ → l .key ≡ l′ .key → fileOf e (plainOf e l) ≡ fileOf e′ (plainOf e′ l′)
     → (e ≡ e′) × SameBurst (plainOf e l) (plainOf e′ l′)
 
 -- ---- the reader accepts exactly the files of such lists
--- what the types of the calls say of their arguments
+-- what the types of the calls say of their arguments; of the name, `Filed` says it
 abbrev pub TypedCalls : List Call → Type 0
 TypedCalls [] = Unit {0}
 TypedCalls (keepShot s p ∷ cs) = (AllBytes s × AllBytes p) × TypedCalls cs
@@ -119,10 +121,12 @@ module _ (key f : Bytes) where
   readShots = readFrom (checkAnswer key f .taken) 1 0
 
 pub record GivenBack (e : Edition) (key f : Bytes) (p : Plain) : Type 0 where
+  -- the file tells its edition
+  pub edition : editionIn f ≡ e
   pub checked : checkAnswer key f ≡ record {
     refusal = 0;
     mark = 0;
-    «burst_number» = p .identity .name .burst;
+    «burst_number» = p .identity .name .«burst_number»;
     «site_mark» = p .identity .siteMark;
     taken = length (p .shots);
     kept = pictures (p .shots);
@@ -145,17 +149,21 @@ abbrev pub GivesBack : Type 0
 GivesBack = (e : Edition) (l : CallList) → Filed e l → GivenBack e (l .key) (fileOf e (plainOf e l)) (plainOf e l)
 
 -- ---- of every accepted file
+-- what check says of the name
+abbrev pub nameGiven : Checked → Name
+nameGiven c = record { «burst_number» = c .«burst_number» }
+
 abbrev pub burstIn : Bytes → Bytes → Plain
 burstIn key f = record {
   key = key;
-  identity = record { name = record { burst = checkAnswer key f .«burst_number» }; siteMark = checkAnswer key f .«site_mark» };
+  identity = record { name = nameGiven (checkAnswer key f); siteMark = checkAnswer key f .«site_mark» };
   shots = readShots key f;
   closed = true;
 }
 
 pub record ReadBack (key f : Bytes) : Type 0 where
   pub counts : checkAnswer key f .taken ≡ checkAnswer key f .kept + checkAnswer key f .dropped
-  pub file : fileOf (rowOf f) (burstIn key f) ≡ f
+  pub file : fileOf (editionIn f) (burstIn key f) ≡ f
 
 abbrev pub Reads : Type 0
 Reads = (key f : Bytes) → AllBytes key → AllBytes f → checkAnswer key f .refusal ≡ 0 → ReadBack key f

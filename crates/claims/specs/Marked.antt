@@ -40,7 +40,7 @@ xoredIn b frame = stateOf (xorWith (replicate 160 0) (pad b frame))
 abbrev pub list7 : CallList
 list7 = record {
   key = replicate 16 0;
-  identity = record { name = record { burst = 7 }; siteMark = replicate 16 0 };
+  identity = record { name = record { «burst_number» = 7 }; siteMark = replicate 16 0 };
   bufferLength = 111;
   calls = dropShot byValue ∷ keepShot (replicate 16 0) (replicate 3 0) ∷ dropShot inPlace ∷ closeBurst ∷ [];
 }
@@ -52,7 +52,7 @@ burst7 = plainOf edition1 list7
 abbrev pub list60 : CallList
 list60 = record {
   key = replicate 16 0;
-  identity = record { name = record { burst = 7 }; siteMark = replicate 16 0 };
+  identity = record { name = record { «burst_number» = 7 }; siteMark = replicate 16 0 };
   bufferLength = 64;
   calls = replicate 61 (dropShot byValue) ++ (closeBurst ∷ dropShot inPlace ∷ []);
 }

@@ -17,7 +17,7 @@ use Rattle.burst.specs.Parts.{sealLength, partAnswer, partOutput}
 use Rattle.burst.specs.Layout.{entryLength}
 use Rattle.burst.proofs.Parts.{answer-agrees, answer-stands, answer-differs, answer-mark, part-output}
 use Rattle.reader.specs.declared.Header.{Header}
-use Rattle.reader.specs.Front.{rowOf, nameIn, headerIn, keptIn, indexOffsetIn, entryAt}
+use Rattle.reader.specs.Front.{editionIn, nameIn, headerIn, keptIn, indexOffsetIn, entryAt}
 use Rattle.reader.specs.Reader.{Part, closingPart, recordPart, sealedIn, agrees, markIn, bodyIn, answerIn}
 use Rattle.reader.proofs.Rules.{Front}
 
@@ -25,38 +25,38 @@ use Rattle.reader.proofs.Rules.{Front}
 module _ (key f : Bytes) (p : Part) (r : Opened) (is : r ≡ answerIn key f p) where
   pub tag-told : eqb (r .refusal) 0 ≡ agrees key f p
   unfolding agrees answerIn
-  tag-told = answer-agrees (rowOf f) key (nameIn f) (p .shot) (p .associated) (sealedIn key f p) r is
+  tag-told = answer-agrees (editionIn f) key (nameIn f) (p .shot) (p .associated) (sealedIn key f p) r is
 
   pub tag-differs : (r .refusal ≡ 0 → ⊥) → agrees key f p ≡ false
   unfolding agrees answerIn
-  tag-differs h = answer-differs (rowOf f) key (nameIn f) (p .shot) (p .associated) (sealedIn key f p) r is h
+  tag-differs h = answer-differs (editionIn f) key (nameIn f) (p .shot) (p .associated) (sealedIn key f p) r is h
 
   pub tag-stands : r .refusal ≡ 0 → agrees key f p ≡ true
   unfolding agrees answerIn
-  tag-stands h = answer-stands (rowOf f) key (nameIn f) (p .shot) (p .associated) (sealedIn key f p) r is h
+  tag-stands h = answer-stands (editionIn f) key (nameIn f) (p .shot) (p .associated) (sealedIn key f p) r is h
 
   pub mark-told : agrees key f p ≡ true → sealLength ≤ length (sealedIn key f p) → r .secret ≡ markIn key f p
   unfolding agrees markIn answerIn
-  mark-told h l = answer-mark (rowOf f) key (nameIn f) (p .shot) (p .associated) (sealedIn key f p) r is h l
+  mark-told h l = answer-mark (editionIn f) key (nameIn f) (p .shot) (p .associated) (sealedIn key f p) r is h l
 
 pub body-told : (key f : Bytes) (p : Part) (out : Bytes) → agrees key f p ≡ true
-    → partOutput (rowOf f) key (nameIn f) (p .shot) (p .associated) (sealedIn key f p) out ≡ putBytes out 0 (bodyIn key f p)
+    → partOutput (editionIn f) key (nameIn f) (p .shot) (p .associated) (sealedIn key f p) out ≡ putBytes out 0 (bodyIn key f p)
 unfolding agrees bodyIn
-body-told key f p out h = part-output (rowOf f) key (nameIn f) (p .shot) (p .associated) (sealedIn key f p) out h
+body-told key f p out h = part-output (editionIn f) key (nameIn f) (p .shot) (p .associated) (sealedIn key f p) out h
 
 -- ---- the record of the entry x
-module _ (key f : Bytes) (e : Edition) (row : e ≡ rowOf f) (name : Name) (named : name ≡ nameIn f) (position : ℕ) (x : Entry) (is : x ≡ entryAt f position)
+module _ (key f : Bytes) (e : Edition) (row : e ≡ editionIn f) (name : Name) (named : name ≡ nameIn f) (position : ℕ) (x : Entry) (is : x ≡ entryAt f position)
     (ad : Bytes) (covers : ad ≡ take entryLength (drop position f)) (c : Bytes) (sealed : c ≡ take (x .length + sealLength) (drop (x .offset) f)) where
   pub record-answer : partAnswer e key name (x .shot .0) ad c ≡ answerIn key f (recordPart f position)
   unfolding answerIn
   record-answer = cc (row, named, is, covers, sealed)
 
   pub record-output : (out : Bytes) → partOutput e key name (x .shot .0) ad c out
-      ≡ partOutput (rowOf f) key (nameIn f) (recordPart f position .shot) (recordPart f position .associated) (sealedIn key f (recordPart f position)) out
+      ≡ partOutput (editionIn f) key (nameIn f) (recordPart f position .shot) (recordPart f position .associated) (sealedIn key f (recordPart f position)) out
   record-output out = cc (row, named, is, covers, sealed)
 
 -- ---- the closing seal of the header h
-pub closing-answer : (key f : Bytes) (e : Edition) (row : e ≡ rowOf f) (name : Name) (named : name ≡ nameIn f) (h : Header) (is : h ≡ headerIn f)
+pub closing-answer : (key f : Bytes) (e : Edition) (row : e ≡ editionIn f) (name : Name) (named : name ≡ nameIn f) (h : Header) (is : h ≡ headerIn f)
     (a b c : Bytes) → a ≡ take (e .header) f → b ≡ take (entryLength * h .kept .0) (drop (h .index) f) → c ≡ take (0 + sealLength) (drop (h .index + entryLength * h .kept .0) f)
     → partAnswer e key name 0 (a ++ b) c ≡ answerIn key f (closingPart f)
 unfolding answerIn

@@ -17,7 +17,7 @@ use Rattle.burst.specs.Index.{entryRules, indexRules}
 use Rattle.burst.proofs.Rows.{numbered-known}
 use Rattle.burst.proofs.Rules.{and-true, Obeys, index-end, index-next, index-fault, index-obeys, index-used}
 use Rattle.reader.specs.declared.Header.{Header}
-use Rattle.reader.specs.Front.{headerIn, editionIn, takenIn, keptIn, droppedIn, pictureOffsetIn, indexOffsetIn, closingOffsetIn, totalIn, entryAt, entriesAt, rowOf, allZero, restRules, frontRulesOf, frontRules}
+use Rattle.reader.specs.Front.{headerIn, editionNumberIn, takenIn, keptIn, droppedIn, pictureOffsetIn, indexOffsetIn, closingOffsetIn, totalIn, entryAt, entriesAt, editionIn, allZero, restRules, frontRulesOf, frontRules}
 
 abbrev pub rulesIn : Edition → Bytes → Bool
 rulesIn e f = indexRules 0 (e .header) (takenIn f) (indexOffsetIn f) (entriesAt (keptIn f) (indexOffsetIn f) f)
@@ -25,7 +25,7 @@ rulesIn e f = indexRules 0 (e .header) (takenIn f) (indexOffsetIn f) (entriesAt 
 pub record FrontOf (e : Edition) (f : Bytes) : Type 0 where
   pub known : Known e
   pub least : e .header + 12 * 0 + 32 ≤ length f
-  pub edition : editionIn f ≡ e .number
+  pub edition : editionNumberIn f ≡ e .number
   pub pictures : pictureOffsetIn f ≡ e .header
   pub most : takenIn f ≤ e .shots
   pub counts : takenIn f ≡ keptIn f + droppedIn f
@@ -36,14 +36,14 @@ pub record FrontOf (e : Edition) (f : Bytes) : Type 0 where
   pub index : rulesIn e f ≡ true
 
 abbrev pub Front : Bytes → Type 0
-Front f = FrontOf (rowOf f) f
+Front f = FrontOf (editionIn f) f
 
 module _ (e : Edition) (f : Bytes) where
   front-of : Known e → frontRulesOf e f ≡ true → FrontOf e f
   unfolding frontRulesOf
   front-of k h =
       let h₁ = and-true (leb (e .header + 12 * 0 + 32) (length f)) _ h in
-      let h₂ = and-true (eqb (editionIn f) (e .number)) _ (h₁ .1) in
+      let h₂ = and-true (eqb (editionNumberIn f) (e .number)) _ (h₁ .1) in
       let h₃ = and-true (eqb (pictureOffsetIn f) (e .header)) _ (h₂ .1) in
       let h₄ = and-true (leb (takenIn f) (e .shots)) _ (h₃ .1) in
       let h₅ = and-true (eqb (takenIn f) (keptIn f + droppedIn f)) _ (h₄ .1) in
@@ -66,7 +66,7 @@ module _ (e : Edition) (f : Bytes) where
       }
 
   -- all rules but those of the index: what is left is these
-  pub front-is : e .header + 12 * 0 + 32 ≤ length f → editionIn f ≡ e .number → pictureOffsetIn f ≡ e .header → takenIn f ≤ e .shots → takenIn f ≡ keptIn f + droppedIn f
+  pub front-is : e .header + 12 * 0 + 32 ≤ length f → editionNumberIn f ≡ e .number → pictureOffsetIn f ≡ e .header → takenIn f ≤ e .shots → takenIn f ≡ keptIn f + droppedIn f
       → closingOffsetIn f ≡ indexOffsetIn f + 12 * keptIn f → totalIn f ≡ closingOffsetIn f + 32 → totalIn f ≡ length f → restRules e f ≡ true
       → rulesIn e f ≡ frontRulesOf e f
   unfolding frontRulesOf
@@ -74,7 +74,7 @@ module _ (e : Edition) (f : Bytes) where
       sym
       (simp (
         le-leb (e .header + 12 * 0 + 32) (length f) h₁,
-        eq-eqb (editionIn f) (e .number) h₂,
+        eq-eqb (editionNumberIn f) (e .number) h₂,
         eq-eqb (pictureOffsetIn f) (e .header) h₃,
         le-leb (takenIn f) (e .shots) h₄,
         eq-eqb (takenIn f) (keptIn f + droppedIn f) h₅,
@@ -86,9 +86,9 @@ module _ (e : Edition) (f : Bytes) where
 
 pub front : (f : Bytes) → frontRules f ≡ true → Front f
 unfolding frontRules
-front f h = front-of (rowOf f) f (numbered-known _) h
+front f h = front-of (editionIn f) f (numbered-known _) h
 
-pub front-at : (e : Edition) (f : Bytes) → e ≡ rowOf f → frontRulesOf e f ≡ frontRules f
+pub front-at : (e : Edition) (f : Bytes) → e ≡ editionIn f → frontRulesOf e f ≡ frontRules f
 unfolding frontRules
 front-at e f own = ap (λ (x : Edition). frontRulesOf x f) own
 
@@ -147,11 +147,11 @@ pub record Reads (f : Bytes) (e : Edition) (h : Header) : Type 0 where
   pub size : h .total ≡ length f
   pub rest : restRules e f ≡ true
 
-module _ (f : Bytes) (e : Edition) (h : Header) (is : h ≡ headerIn f) (row : e ≡ rowOf f) where
+module _ (f : Bytes) (e : Edition) (h : Header) (is : h ≡ headerIn f) (row : e ≡ editionIn f) where
   pub reads : Front f → Reads f e h
   reads w =
       subst (λ (x : Edition). Reads f x h) (sym row)
-      (subst (λ (x : Header). Reads f (rowOf f) x) (sym is)
+      (subst (λ (x : Header). Reads f (editionIn f) x) (sym is)
       (record { known = w .known; least = w .least; edition = w .edition; pictures = w .pictures; most = w .most; counts = w .counts; closing = w .closing; total = w .total; size = w .size; rest = w .rest }))
 
   pub reads-is : Reads f e h → indexRules 0 (e .header) (h .taken .0) (h .index) (entriesAt (h .kept .0) (h .index) f) ≡ frontRules f
@@ -165,7 +165,7 @@ module _ (f : Bytes) (e : Edition) (h : Header) (is : h ≡ headerIn f) (row : e
 pub in-range-at : (f : Bytes) (position j : ℕ) → Front f → j < keptIn f → position ≡ indexOffsetIn f + 12 * j → InRange f position (indexOffsetIn f)
 in-range-at f position j w g e =
     subst (λ (i : ℕ). InRange f i (indexOffsetIn f)) (sym e)
-    (in-range f (keptIn f) (indexOffsetIn f) 0 (rowOf f .header) (takenIn f) (indexOffsetIn f) j (w .index) g)
+    (in-range f (keptIn f) (indexOffsetIn f) 0 (editionIn f .header) (takenIn f) (indexOffsetIn f) j (w .index) g)
 
 -- ---- a turn over the header's bytes behind its nine fields
 module _ (f : Bytes) (header i : ℕ) (h : i < header) (g : header ≤ length f) where

@@ -17,8 +17,8 @@ use Rattle.burst.specs.Numbers.{totalFrom}
 use Rattle.burst.specs.Index.{indexRules}
 
 -- ---- the header's numbers
-abbrev pub editionIn : Bytes → ℕ
-editionIn f = leAt 2 f 0
+abbrev pub editionNumberIn : Bytes → ℕ
+editionNumberIn f = leAt 2 f 0
 
 abbrev pub takenIn : Bytes → ℕ
 takenIn f = leAt 2 f 2
@@ -44,18 +44,18 @@ closingOffsetIn f = leAt 4 f 24
 abbrev pub totalIn : Bytes → ℕ
 totalIn f = leAt 4 f 28
 
--- the file's row, from its own edition number
-abbrev pub rowOf : Bytes → Edition
-rowOf f = numbered (editionIn f)
+-- the file's edition, the row of that number
+abbrev pub editionIn : Bytes → Edition
+editionIn f = numbered (editionNumberIn f)
 
 -- the name of the file's burst
 abbrev pub nameIn : Bytes → Name
-nameIn f = record { burst = burstNumberIn f }
+nameIn f = record { «burst_number» = burstNumberIn f }
 
 -- the header's numbers, as the code reads them
 abbrev pub headerIn : Bytes → Header
 headerIn f = record {
-  edition = editionIn f;
+  edition = editionNumberIn f;
   taken = record { 0 = takenIn f };
   kept = record { 0 = keptIn f };
   dropped = droppedIn f;
@@ -90,7 +90,7 @@ abbrev pub allZero : Bytes → Bool
 allZero [] = true
 allZero (x ∷ xs) = eqb x 0 && allZero xs
 
--- the header's bytes behind its nine fields
+-- the header's bytes behind its nine fields are zero
 unfoldable pub restRules : Edition → Bytes → Bool
 restRules e f = allZero (drop fieldsLength (take (e .header) f))
 
@@ -98,7 +98,7 @@ restRules e f = allZero (drop fieldsLength (take (e .header) f))
 unfoldable pub frontRulesOf : Edition → Bytes → Bool
 frontRulesOf e f =
     leb (totalFrom (e .header) 0) (length f)
-    && (eqb (editionIn f) (e .number)
+    && (eqb (editionNumberIn f) (e .number)
     && (eqb (pictureOffsetIn f) (e .header)
     && (leb (takenIn f) (e .shots)
     && (eqb (takenIn f) (keptIn f + droppedIn f)
@@ -108,5 +108,6 @@ frontRulesOf e f =
     && (restRules e f
     && indexRules 0 (e .header) (takenIn f) (indexOffsetIn f) (entriesAt (keptIn f) (indexOffsetIn f) f)))))))))
 
+-- at the row of the file's own edition number
 unfoldable pub frontRules : Bytes → Bool
-frontRules f = frontRulesOf (rowOf f) f
+frontRules f = frontRulesOf (editionIn f) f

@@ -15,7 +15,7 @@ use Rattle.burst.specs.Layout.{entryLength, closingOffset}
 use Rattle.reader.specs.declared.Checked.{Checked}
 use Rattle.reader.specs.declared.Fetched.{Fetched}
 use Rattle.reader.specs.declared.Located.{Located}
-use Rattle.reader.specs.Front.{rowOf, nameIn, takenIn, keptIn, droppedIn, burstNumberIn, indexOffsetIn, entryAt, positionOf, frontRules}
+use Rattle.reader.specs.Front.{editionIn, nameIn, takenIn, keptIn, droppedIn, burstNumberIn, indexOffsetIn, entryAt, positionOf, frontRules}
 
 -- ---- the sealed parts of a file
 -- the shot number, 0 for the closing seal; the associated data; where the part stands; and the length of its body
@@ -29,7 +29,7 @@ pub record Part : Type 0 where
 abbrev pub closingPart : Bytes → Part
 closingPart f = record {
   shot = 0;
-  associated = take (rowOf f .header) f ++ take (entryLength * keptIn f) (drop (indexOffsetIn f) f);
+  associated = take (editionIn f .header) f ++ take (entryLength * keptIn f) (drop (indexOffsetIn f) f);
   offset = closingOffset (indexOffsetIn f) (keptIn f);
   count = 0;
 }
@@ -53,17 +53,17 @@ module _ (key f : Bytes) where
 
   -- whether its tag agrees, its mark (the stamp, or the site mark), and its body
   unfoldable pub agrees : Part → Bool
-  agrees p = partAgrees (rowOf f) key (nameIn f) (p .shot) (p .associated) (sealedIn p)
+  agrees p = partAgrees (editionIn f) key (nameIn f) (p .shot) (p .associated) (sealedIn p)
 
   unfoldable pub markIn : Part → Bytes
-  markIn p = partMark (rowOf f) key (nameIn f) (p .shot) (p .associated) (sealedIn p)
+  markIn p = partMark (editionIn f) key (nameIn f) (p .shot) (p .associated) (sealedIn p)
 
   unfoldable pub bodyIn : Part → Bytes
-  bodyIn p = partBody (rowOf f) key (nameIn f) (p .shot) (p .associated) (sealedIn p)
+  bodyIn p = partBody (editionIn f) key (nameIn f) (p .shot) (p .associated) (sealedIn p)
 
   -- what verifying it answers
   unfoldable pub answerIn : Part → Opened
-  answerIn p = partAnswer (rowOf f) key (nameIn f) (p .shot) (p .associated) (sealedIn p)
+  answerIn p = partAnswer (editionIn f) key (nameIn f) (p .shot) (p .associated) (sealedIn p)
 
   -- the shot number of the first part whose tag differs
   unfoldable pub firstDiffering : List Part → Option ℕ

@@ -22,7 +22,7 @@ ghost use Rattle.burst.specs.Editions.{fieldsLength, maxEntries, maxHeader, Kno
 ghost use Rattle.burst.specs.Parts.{sealLength};
 ghost use Rattle.burst.specs.Layout.{entryLength, maxPicture};
 ghost use Rattle.burst.specs.Index.{indexRules};
-ghost use Rattle.reader.specs.Front.{headerIn, keptIn, indexOffsetIn, entryAt, entriesAt, rowOf, nameIn, restRules, frontRules};
+ghost use Rattle.reader.specs.Front.{headerIn, keptIn, indexOffsetIn, entryAt, entriesAt, editionIn, nameIn, restRules, frontRules};
 ghost use Rattle.reader.specs.Reader.{closingPart, recordPart, recordParts, agrees, answerIn, markIn, bodyIn, firstDiffering, notChecked, notFetched, checkMark, checkAnswer, locateAnswer, recordNumber, recordOffset, recordBytesIn, fetchAnswer, fetchOutput};
 ghost use Rattle.reader.specs.Verdicts.{differingOf};
 
@@ -62,7 +62,7 @@ enum Verdict {
 // The entry that stands at a position of the file.
 pub fn entry_at(f: &[u8], position: usize) -> Entry
     requires { ⌜ position + entryLength ≤ length (now f) ⌝ }
-    ensures { λ e. ⌜ e ≡ entryAt (now (f .entry)) position ⌝ }
+    ensures { λ x. ⌜ x ≡ entryAt (now (f .entry)) position ⌝ }
 {
     let shot = bytes_le::load_le(f, position, 2);
     let zeros = bytes_le::load_le(f, position + 2, 2);
@@ -86,12 +86,12 @@ fn index_ok(f: &[u8], header: u32, count: usize, start: usize, taken: u16, end: 
     let mut last: u16 = 0;
     let mut offset = header;
     while 0 < left {
-        let e = entry_at(f, position);
-        if !burst::entry_ok(Shot(last), offset, Shot(taken), e) {
+        let x = entry_at(f, position);
+        if !burst::entry_ok(Shot(last), offset, Shot(taken), x) {
             return false;
         }
-        offset = offset + e.length + SEAL_LENGTH;
-        last = e.shot.0;
+        offset = offset + x.length + SEAL_LENGTH;
+        last = x.shot.0;
         position = position + ENTRY_LENGTH;
         left = left - 1;
     }
@@ -137,10 +137,10 @@ pub fn header_in(f: &[u8]) -> Header
     }
 }
 
-// The row of a file's edition number.
+// The edition of a file: the row of its number.
 fn edition_in(f: &[u8]) -> Edition
     requires { ⌜ fieldsLength ≤ length (now f) ⌝ }
-    ensures { λ e. ⌜ (e ≡ rowOf (now (f .entry))) × Known e ⌝ }
+    ensures { λ e. ⌜ (e ≡ editionIn (now (f .entry))) × Known e ⌝ }
 {
     let h = header_in(f);
     burst::edition_numbered(h.edition)
@@ -148,12 +148,12 @@ fn edition_in(f: &[u8]) -> Edition
 
 // The name of a file's burst.
 fn name_in(f: &[u8]) -> Name
-    requires { ⌜ fieldsLength ≤ length (now f) ⌝ }
+    requires { ⌜ editionIn (now f) .header ≤ length (now f) ⌝ }
     ensures { λ n. ⌜ n ≡ nameIn (now (f .entry)) ⌝ }
 {
     let h = header_in(f);
     Name {
-        burst: h.burst_number,
+        burst_number: h.burst_number,
     }
 }
 
@@ -217,7 +217,7 @@ pub fn front_ok(f: &[u8]) -> bool
 
 // Whether the tag agrees of the record whose entry stands at a position.
 fn record_agrees(key: &[u8], f: &[u8], e: Edition, name: Name, position: usize) -> bool
-    requires { ⌜ (length (now key) ≡ 16) × (e ≡ rowOf (now f)) × (name ≡ nameIn (now f)) × (position + entryLength ≤ length (now f)) × (entryAt (now f) position .length ≤ maxPicture)
+    requires { ⌜ (length (now key) ≡ 16) × (e ≡ editionIn (now f)) × (name ≡ nameIn (now f)) × (position + entryLength ≤ length (now f)) × (entryAt (now f) position .length ≤ maxPicture)
         × (entryAt (now f) position .offset + (entryAt (now f) position .length + sealLength) ≤ length (now f)) ⌝ }
     ensures { λ b. ⌜ b ≡ agrees (now (key .entry)) (now (f .entry)) (recordPart (now (f .entry)) position) ⌝ }
 {
@@ -247,7 +247,7 @@ fn verify_records(
     count: usize,
     start: usize,
 ) -> Verdict
-    requires { ⌜ (length (now key) ≡ 16) × (frontRules (now f) ≡ true) × (e ≡ rowOf (now f)) × (name ≡ nameIn (now f)) × (count ≡ keptIn (now f)) × (start ≡ indexOffsetIn (now f)) ⌝ }
+    requires { ⌜ (length (now key) ≡ 16) × (frontRules (now f) ≡ true) × (e ≡ editionIn (now f)) × (name ≡ nameIn (now f)) × (count ≡ keptIn (now f)) × (start ≡ indexOffsetIn (now f)) ⌝ }
     ensures { λ v. ⌜ differingOf v ≡ firstDiffering (now (key .entry)) (now (f .entry)) (recordParts count start (now (f .entry))) ⌝ }
 {
     let mut left = count;
@@ -280,7 +280,7 @@ fn not_checked(refusal: u32, mark: u32) -> Checked
 
 // Verifies the closing seal; header, then index, are its associated data.
 fn verify_closing(key: &[u8], f: &[u8], e: Edition, name: Name, h: Header) -> Opened
-    requires { ⌜ (length (now key) ≡ 16) × (frontRules (now f) ≡ true) × (e ≡ rowOf (now f)) × (name ≡ nameIn (now f)) × (h ≡ headerIn (now f)) ⌝ }
+    requires { ⌜ (length (now key) ≡ 16) × (frontRules (now f) ≡ true) × (e ≡ editionIn (now f)) × (name ≡ nameIn (now f)) × (h ≡ headerIn (now f)) ⌝ }
     ensures { λ r. ⌜ r ≡ answerIn (now (key .entry)) (now (f .entry)) (closingPart (now (f .entry))) ⌝ }
 {
     let n = e.header as usize;
@@ -364,7 +364,7 @@ fn not_fetched(refusal: u32, mark: u32) -> Fetched
 
 // Opens the record of the entry x, which stands at a position of the file.
 fn open_record(key: &[u8], f: &[u8], position: usize, x: Entry, out: &mut [u8]) -> Fetched
-    requires { ⌜ (length (now key) ≡ 16) × (fieldsLength ≤ length (now f)) × (x ≡ entryAt (now f) position) × (agrees (now key) (now f) (recordPart (now f) position) ≡ true)
+    requires { ⌜ (length (now key) ≡ 16) × (editionIn (now f) .header ≤ length (now f)) × (x ≡ entryAt (now f) position) × (agrees (now key) (now f) (recordPart (now f) position) ≡ true)
         × (position + entryLength ≤ length (now f)) × (x .offset + (x .length + sealLength) ≤ length (now f)) × (x .length ≤ maxPicture) × (x .length ≤ length (now out)) ⌝ }
     ensures { λ r. ⌜
         (r ≡ record { refusal = 0; mark = 0; shot = x .shot; stamp = markIn (now (key .entry)) (now (f .entry)) (recordPart (now (f .entry)) position); length = x .length }) ×

@@ -133,7 +133,7 @@ pub fn replay(
     answers: &mut [u8],
 ) -> usize
     ensures { λ n. ⌜ Replayed
-        (listOf (now (key .entry)) (record { name = record { burst = «burst_number» }; siteMark = now («site_mark» .entry) }) (length (now (buffer .entry))) (length (now (answers .entry))) (now (script .entry)))
+        (listOf (now (key .entry)) (record { name = record { «burst_number» = «burst_number» }; siteMark = now («site_mark» .entry) }) (length (now (buffer .entry))) (length (now (answers .entry))) (now (script .entry)))
         (now (answers .entry)) (now (answers .exit)) (now (buffer .entry)) (now (buffer .exit)) n ⌝ }
 {
     if answers.len() < 8 {

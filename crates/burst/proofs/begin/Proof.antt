@@ -15,30 +15,30 @@ use Rattle.burst.proofs.begin.Statement.{statement}
 use Rattle.burst.proofs.begin.Tie as tie
 
 abbrev identity : tie.Start → Identity
-identity s = record { name = record { burst = s .args .burst-number }; siteMark = s .args .site-mark .now }
+identity s = record { name = record { «burst_number» = s .args .burst-number }; siteMark = s .args .site-mark .now }
 
 -- what is known once no number stands against the call
-good : (c : tie.Else1) → Begins (c .before .before .edition-for .result) (length (c .before .before .before .before .before .before .args .key .now)) (length (c .before .before .before .before .before .before .args .site-mark .now)) (length (c .before .before .before .before .before .before .args .buffer .now))
+good : (c : tie.Else1) → Begins (c .before .before .edition-written .result) (length (c .before .before .before .before .before .before .args .key .now)) (length (c .before .before .before .before .before .before .args .site-mark .now)) (length (c .before .before .before .before .before .before .args .buffer .now))
 good c = begins _ _ _ _ (sym (c .before .begin-number .ensures) ∙ c .if1 .left)
 
 returns : tie.Need-returns
 returns c =
     let a = c .before .before .before .before .before .before .before .args in
-    begin-refused (a .key .now) (identity (c .before .before .before .before .before .before .before)) (a .buffer .now) _ (c .before .before .before .edition-for .ensures .0) _ (c .before .before .begin-number .ensures) (c .before .if1 .taken) _ (c .new-recorder .ensures)
+    begin-refused (a .key .now) (identity (c .before .before .before .before .before .before .before)) (a .buffer .now) _ (c .before .before .before .edition-written .ensures .0) _ (c .before .before .begin-number .ensures) (c .before .if1 .taken) _ (c .new-recorder .ensures)
 
 begin-number-requires : tie.Need-begin-number-requires
-begin-number-requires c κs = c .edition-for .ensures .1
+begin-number-requires c κs = c .edition-written .ensures .1
 
 array-share-prefix-zeros : tie.Need-array-share-prefix-zeros
-array-share-prefix-zeros c = let k = c .before .before .before .before .edition-for .ensures .1 in omega (arith, k)
+array-share-prefix-zeros c = let k = c .before .before .before .before .edition-written .ensures .1 in omega (arith, k)
 
 slice-aggregate-put-bytes : tie.Need-slice-aggregate-put-bytes
-slice-aggregate-put-bytes c = sym (length-zeros _ (c .before .before .before .before .before .edition-for .ensures .1))
+slice-aggregate-put-bytes c = sym (length-zeros _ (c .before .before .before .before .before .edition-written .ensures .1))
 
 put-bytes-requires : tie.Need-put-bytes-requires
 put-bytes-requires c κs =
     let w = good (c .before .before .before) in
-    let l = length-zeros _ (c .before .before .before .before .before .edition-for .ensures .1) in
+    let l = length-zeros _ (c .before .before .before .before .before .edition-written .ensures .1) in
     omega (arith, w, l)
 
 sixteen-requires : tie.Need-sixteen-requires
@@ -50,11 +50,11 @@ sixteen-requires-2 c κs = good (c .before .before .before .before .before .befo
 returns-2 : tie.Need-returns-2
 returns-2 c =
     let a = c .before .before .before .before .before .before .before .before .before .before .before .before .before .before .before .args in
-    let e = c .before .before .before .before .before .before .before .before .before .before .before .edition-for .result in
-    begin-done (a .key .now) (identity (c .before .before .before .before .before .before .before .before .before .before .before .before .before .before .before)) (a .buffer .now) e (c .before .before .before .before .before .before .before .before .before .before .before .edition-for .ensures .0) (sym (c .before .before .before .before .before .before .before .before .before .before .begin-number .ensures) ∙ c .before .before .before .before .before .before .before .before .before .if1 .left)
+    let e = c .before .before .before .before .before .before .before .before .before .before .before .edition-written .result in
+    begin-done (a .key .now) (identity (c .before .before .before .before .before .before .before .before .before .before .before .before .before .before .before)) (a .buffer .now) e (c .before .before .before .before .before .before .before .before .before .before .before .edition-written .ensures .0) (sym (c .before .before .before .before .before .before .before .before .before .before .begin-number .ensures) ∙ c .before .before .before .before .before .before .before .before .before .if1 .left)
     _ (c .new-recorder2 .ensures
-    ∙ ap₂ (λ (k m : Bytes). newRecorder k (record { name = record { burst = a .burst-number }; siteMark = m }) (e .header) false) (c .before .before .sixteen .ensures) (c .before .sixteen2 .ensures))
-    _ (c .before .before .before .before .before .put-bytes .ensures .1 ∙ ap (putBytes (a .buffer .now) 0) (header-zeros e (c .before .before .before .before .before .before .before .before .before .before .before .edition-for .ensures .1)))
+    ∙ ap₂ (λ (k m : Bytes). newRecorder k (record { name = record { «burst_number» = a .burst-number }; siteMark = m }) (e .header) false) (c .before .before .sixteen .ensures) (c .before .sixteen2 .ensures))
+    _ (c .before .before .before .before .before .put-bytes .ensures .1 ∙ ap (putBytes (a .buffer .now) 0) (header-zeros e (c .before .before .before .before .before .before .before .before .before .before .before .edition-written .ensures .1)))
 
 pub begin-spec : {M : Type 1} → statement M
 begin-spec =

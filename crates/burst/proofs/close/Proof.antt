@@ -1,20 +1,21 @@
 -- `burst::close` meets its contract.
 -- Assumes nothing.
 use mathlib.Core.List.{_++_}
-use mathlib.Core.Path.{sym, ap, ap₂, _∙_}
-use Prim.Native.Nat.{ℕ, _+_, _*_, _≤_}
+use mathlib.Core.Path.{_≡_, sym, ap, ap₂, _∙_}
+use Prim.Native.Nat.{ℕ, _+_, _-_, _*_, _≤_}
 use native.Mathlib.Omega.{arith}
 use borrow.Author.Needs.{needs}
 use lib.ListN.{length, take}
 use lib.Seq.{length-take-le}
 use Rattle.bytes_le.specs.Bytes.{Bytes, putBytes}
 use Rattle.burst.specs.declared.Closed.{Closed}
-use Rattle.burst.specs.Editions.{Known}
+use Rattle.burst.specs.Editions.{maxHeader, Known}
 use Rattle.burst.specs.Parts.{sealLength}
-use Rattle.burst.specs.Layout.{entryLength, closingSeal}
-use Rattle.burst.specs.Recorder.{identityOf, afterClose}
+use Rattle.burst.specs.Layout.{entryLength, headerBytes, closingSeal}
+use Rattle.burst.specs.Recorder.{nameOf, identityOf, afterClose}
 use Rattle.burst.proofs.Rules.{Sound, sounds}
 use Rattle.burst.proofs.Numbers.{closes}
+use Rattle.burst.proofs.Puts.{header-front}
 use Rattle.burst.proofs.Answers.{close-refused, close-done}
 use Rattle.burst.proofs.close.Statement.{statement}
 use Rattle.burst.proofs.close.Tie as tie
@@ -30,6 +31,13 @@ good c =
     let w = closes _ _ _ _ (sym (c .before .close-number .ensures) ∙ c .if1 .left) in
     record { known = c .before .before .edition-of .ensures .1; sound = sounds _ _ (w .0); room = w .1 }
 
+-- the header stands at the front of what was made for it
+headed : (c : tie.After-header-of) → (length (c .header-of .result) ≡ maxHeader)
+    × (take (c .before .before .before .edition-of .result .header) (c .header-of .result)
+    ≡ headerBytes (c .before .before .before .edition-of .result) (nameOf (c .before .before .before .before .before .args .r)) (c .before .before .before .before .before .args .r .taken .0) (c .before .before .before .before .before .args .r .kept .0)
+    (c .before .before .before .before .before .args .r .taken .0 - c .before .before .before .before .before .args .r .kept .0) (c .before .before .before .before .before .args .r .used))
+headed c = header-front _ _ _ _ _ _ (good (c .before) .known) _ (c .header-of .ensures)
+
 returns : tie.Need-returns
 returns c = close-refused (c .before .before .before .before .args .r) _ (c .before .before .edition-of .ensures .0) (c .before .before .before .before .args .buffer .now) _ (c .before .close-number .ensures) (c .if1 .taken)
 
@@ -43,11 +51,11 @@ index-of-requires : tie.Need-index-of-requires
 index-of-requires c κs = let g = good (c .before) in omega (arith, g)
 
 array-share-prefix-header : tie.Need-array-share-prefix-header
-array-share-prefix-header c = let g = good (c .before .before .before .before) in omega (arith, g, c .before .before .before .header-of .ensures .0)
+array-share-prefix-header c = let g = good (c .before .before .before .before) in omega (arith, g, headed (c .before .before .before) .0)
 
 slice-aggregate-put-end : tie.Need-slice-aggregate-put-end
 slice-aggregate-put-end c =
-    let g = good (c .before .before .before .before .before) in sym (length-take-le (c .before .before .before .before .before .before .before .edition-of .result .header) (c .before .before .before .before .header-of .result) (omega (arith, g, c .before .before .before .before .header-of .ensures .0)))
+    let g = good (c .before .before .before .before .before) in sym (length-take-le (c .before .before .before .before .before .before .before .edition-of .result .header) (c .before .before .before .before .header-of .result) (omega (arith, g, headed (c .before .before .before .before) .0)))
 
 array-share-prefix-index : tie.Need-array-share-prefix-index
 array-share-prefix-index c = let g = good (c .before .before .before .before .before) in omega (arith, g, c .before .before .index-length .ensures, c .before .before .before .index-of .ensures .0)
@@ -62,7 +70,7 @@ put-end-requires c κs =
     let g = good (c .before .before .before .before .before .before .before) in
     let n = c .before .before .before .before .index-length .ensures in
     let l = length-take-le (c .before .before .before .before .index-length .result) (c .before .before .before .before .before .index-of .result) (omega (arith, g, n, c .before .before .before .before .before .index-of .ensures .0)) in
-    let m = length-take-le (c .before .before .before .before .before .before .before .before .before .edition-of .result .header) (c .before .before .before .before .before .before .header-of .result) (omega (arith, g, c .before .before .before .before .before .before .header-of .ensures .0)) in
+    let m = length-take-le (c .before .before .before .before .before .before .before .before .before .edition-of .result .header) (c .before .before .before .before .before .before .header-of .result) (omega (arith, g, headed (c .before .before .before .before .before .before) .0)) in
     (omega (arith, g, m), omega (arith, g, n, l), omega (arith, g, m), omega (arith, g, n, l))
 
 cast-total : tie.Need-cast-total
@@ -84,7 +92,7 @@ returns-2 c =
     let p = close-done r e (c .before .before .before .before .before .before .before .before .before .before .before .before .before .edition-of .ensures .0) b (sym (c .before .before .before .before .before .before .before .before .before .before .before .before .close-number .ensures) ∙ c .before .before .before .before .before .before .before .before .before .before .before .if1 .left) _
     (c .before .before .before .put-end .ensures
     ∙ ap₂ (λ (h x : Bytes). putBytes (putBytes b 0 h) (r .used) (x ++ closingSeal e (r .key) (identityOf r) h x))
-    (c .before .before .before .before .before .before .before .before .before .before .header-of .ensures .1) (ap (λ (k : ℕ). take k (c .before .before .before .before .before .before .before .before .before .index-of .result)) n ∙ c .before .before .before .before .before .before .before .before .before .index-of .ensures .1)) in
+    (headed (c .before .before .before .before .before .before .before .before .before .before) .1) (ap (λ (k : ℕ). take k (c .before .before .before .before .before .before .before .before .before .index-of .result)) n ∙ c .before .before .before .before .before .before .before .before .before .index-of .ensures .1)) in
     (ap (λ (k : ℕ). let y : Closed = record { refusal = 0; mark = 0; total = r .used + k + sealLength; recorder = afterClose r } in y) n ∙ p .0, p .1)
 
 pub close-spec : {M : Type 1} → statement M

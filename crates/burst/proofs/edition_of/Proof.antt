@@ -10,7 +10,7 @@ use Rattle.burst.proofs.edition_of.Tie as tie
 returns : tie.Need-returns
 returns c =
     let hk : length (c .before .before .args .r .key) ≡ 16 = simp length-map at (c .before .before .good .0 .1 .1 .0 .1 .0 .1) in
-    (c .edition-for .ensures .0 ∙ ap written (sym hk), c .edition-for .ensures .1)
+    (c .edition-written .ensures .0 ∙ ap written (sym hk), c .edition-written .ensures .1)
 
 pub edition-of-spec : {M : Type 1} → statement M
 edition-of-spec =

@@ -11,7 +11,7 @@ use Rattle.burst.proofs.entry_bytes.Tie as tie
 
 returns : tie.Need-returns
 returns c =
-    let e = c .before .before .before .args .e in
+    let e = c .before .before .before .args .x in
     let l = length-entry-of e in
     c .before .put-entry .ensures .1 ∙ put-whole _ (bytesOfEntry e) (omega arith)
 

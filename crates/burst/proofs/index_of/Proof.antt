@@ -34,7 +34,7 @@ loop-again c =
       omega arith,
       p .kept .0 ∙ l .inv .2,
       ap (λ (k : ℕ). take k (p .last .0)) (p .ensures .0)
-          ∙ index-turn (s .args .t1 .entries) (entryOf 0 0 0) (l .x) (p .last .0) (l .i) (l .at) (omega arith) (l .inv .1) (omega arith) (p .ensures .1) (l .inv .3),
+          ∙ index-turn (s .args .t1 .entries) (entryOf 0 0 0) (l .b) (p .last .0) (l .i) (l .at) (omega arith) (l .inv .1) (omega arith) (p .ensures .1) (l .inv .3),
     )
 
 returns : tie.Need-returns Inv-loop μ-loop
@@ -44,7 +44,7 @@ returns c =
     let r = c .before .before .args .t1 in
     let e : l .i ≡ r .kept .0 = omega arith in
     let f : 12 * r .kept .0 ≡ l .at = omega arith in
-    (l .inv .2, ap (λ (k : ℕ). take k (l .x)) f ∙ l .inv .3 ∙ ap (λ (k : ℕ). indexBytes (take k (r .entries))) e)
+    (l .inv .2, ap (λ (k : ℕ). take k (l .b)) f ∙ l .inv .3 ∙ ap (λ (k : ℕ). indexBytes (take k (r .entries))) e)
 
 pub index-of-spec : {M : Type 1} → statement M
 index-of-spec =

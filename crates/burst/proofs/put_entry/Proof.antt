@@ -12,7 +12,7 @@ unfolding bytesOfEntry
 returns c =
     let a = c .before .before .before .before .before .before .before .before .before .before .before .before .before .before .before .before .before .before .before .before .before .before .args in (
       omega (arith, c .before .before .before .before .before .before .before .before .before .before .before .before .before .before .before .before .before .store-le, c .before .before .before .before .before .before .before .before .before .before .before .before .store-le2, c .before .before .before .before .before .before .before .store-le3, c .before .before .store-le4),
-      entry-put (a .out .now) _ _ _ _ (a .at) _ _ _ (a .e .shot .0) (a .e .zeros) (a .e .offset) (a .e .length) (c .before .before .before .before .before .before .before .before .before .before .before .before .before .before .before .before .before .before .before .before .before .before .pre)
+      entry-put (a .out .now) _ _ _ _ (a .at) _ _ _ (a .x .shot .0) (a .x .zeros) (a .x .offset) (a .x .length) (c .before .before .before .before .before .before .before .before .before .before .before .before .before .before .before .before .before .before .before .before .before .before .pre)
           (c .before .before .before .before .before .before .before .before .before .before .before .before .before .before .before .before .before .store-le .ensures .1) (c .before .before .before .before .before .before .before .before .before .before .before .before .before .before .before .before .before .store-le .ensures .0) (c .before .before .before .before .before .before .before .before .before .before .before .before .store-le2 .ensures .1) (c .before .before .before .before .before .before .before .before .before .before .before .before .store-le2 .ensures .0) (c .before .before .before .before .before .before .before .store-le3 .ensures .1) (c .before .before .before .before .before .before .before .store-le3 .ensures .0) (c .before .before .store-le4 .ensures .1),
     )
 

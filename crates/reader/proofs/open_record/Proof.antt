@@ -11,11 +11,16 @@ use Rattle.bytes_le.specs.Bytes.{Bytes}
 use Rattle.burst.specs.declared.Entry.{Entry}
 use Rattle.burst.specs.Parts.{sealLength}
 use Rattle.burst.specs.Layout.{entryLength}
+use Rattle.burst.proofs.Rows.{numbered-known}
 use Rattle.reader.specs.declared.Fetched.{Fetched}
+use Rattle.reader.specs.Front.{editionNumberIn}
 use Rattle.reader.specs.Reader.{recordPart}
 use Rattle.reader.proofs.Opens.{mark-told, body-told, record-answer, record-output}
 use Rattle.reader.proofs.open_record.Statement.{statement}
 use Rattle.reader.proofs.open_record.Tie as tie
+
+edition-in-requires : tie.Need-edition-in-requires
+edition-in-requires c κs = let k = numbered-known (editionNumberIn (c .before .before .before .args .f .now)) in omega (arith, k, c .before .before .before .pre)
 
 open-part-requires : tie.Need-open-part-requires
 open-part-requires c κs =
@@ -59,7 +64,7 @@ pub open-record-spec : {M : Type 1} → statement M
 open-record-spec =
     tie.close
     (tie.spec
-    (λ c. search needs)
+    edition-in-requires
     (λ c. search needs)
     (λ c. search needs)
     (λ c. search needs)

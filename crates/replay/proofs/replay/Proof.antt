@@ -24,7 +24,7 @@ returns-2 : tie.Need-returns-2
 returns-2 c =
     let a = c .before .before .before .before .before .before .before .before .before .before .before .before .before .before .before .before .before .before .before .before .before .before .before .before .before .before .before .args in
     let a₂ = c .before .before .before .before .before .before .before .before .before .before .store-le2 .last .0 in
-    all-done (a .key .now) (record { name = record { burst = a .burst-number }; siteMark = a .site-mark .now }) (a .script .now) (a .buffer .now) (a .answers .now) (omega (arith, c .before .before .before .before .before .before .before .before .before .before .before .before .before .before .before .before .before .before .before .before .before .if1))
+    all-done (a .key .now) (record { name = record { «burst_number» = a .burst-number }; siteMark = a .site-mark .now }) (a .script .now) (a .buffer .now) (a .answers .now) (omega (arith, c .before .before .before .before .before .before .before .before .before .before .before .before .before .before .before .before .before .before .before .before .before .if1))
     (c .before .before .before .before .before .before .before .before .before .before .before .before .before .before .before .before .before .before .before .begin .result) _ _ _ a₂ (take (length a₂ - 8) (drop 8 a₂)) _ (c .before .before .before .before .before .before .before .before .before .before .before .before .before .before .store-le .result) (c .before .before .before .before .run .result) (length a₂ - 8)
     (c .before .before .before .before .before .before .before .before .before .before .before .before .before .before .before .before .before .before .before .begin .ensures .0) (c .before .before .before .before .before .before .before .before .before .before .before .before .before .before .before .before .before .before .before .begin .ensures .1) (c .before .before .before .before .before .before .before .before .before .before .before .before .before .before .store-le .ensures .0) (c .before .before .before .before .before .before .before .before .before .before .before .before .before .before .store-le .ensures .1) (c .before .before .before .before .before .before .before .before .before .before .store-le2 .ensures .1)
     (c .before .before .before .before .run .ensures .0) (c .before .before .before .before .run .ensures .1) (take-all (length a₂ - 8) (drop 8 a₂) (simp length-drop (omega arith))) refl (c .before .before .before .before .run .ensures .2)
