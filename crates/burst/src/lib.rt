@@ -91,6 +91,7 @@ pub struct Entry {
     pub length: u32,
 }
 
+// What a burst is recorded with. Proofs reach the arrays by position: a new field goes behind `closed`.
 pub struct Recorder {
     pub key: [u8; 16],
     pub burst_number: u64,

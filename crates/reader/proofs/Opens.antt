@@ -2,7 +2,7 @@
 -- Assumes nothing.
 use mathlib.Core.Bool.{true, false}
 use mathlib.Core.List.{_++_}
-use mathlib.Core.Path.{_≡_, ap}
+use mathlib.Core.Path.{_≡_, ap, _∙_}
 use Prim.Native.Nat.{ℕ, _+_, _-_, _*_, _≤_}
 use native.Mathlib.Omega.{arith}
 use lib.Dec.{eqb}
@@ -43,6 +43,28 @@ pub body-told : (key f : Bytes) (p : Part) (out : Bytes) → agrees key f p ≡ 
     → partOutput (editionIn f) key (nameIn f) (p .shot) (p .associated) (sealedIn key f p) out ≡ putBytes out 0 (bodyIn key f p)
 unfolding agrees bodyIn
 body-told key f p out h = part-output (editionIn f) key (nameIn f) (p .shot) (p .associated) (sealedIn key f p) out h
+
+-- ---- the slices that are lent for an entry at a position and its record
+pub record Lent (f : Bytes) (position : ℕ) (x : Entry) : Type 0 where
+  pub entry : take (position + entryLength - position) (drop position f) ≡ take entryLength (drop position f)
+  pub sealed : take (x .offset + (x .length + sealLength) - x .offset) (drop (x .offset) f) ≡ take (x .length + sealLength) (drop (x .offset) f)
+  pub entry-length : length (take (position + entryLength - position) (drop position f)) ≡ entryLength
+  pub sealed-length : length (take (x .offset + (x .length + sealLength) - x .offset) (drop (x .offset) f)) ≡ x .length + sealLength
+
+pub lent : (f : Bytes) (position : ℕ) (x : Entry) → position + entryLength ≤ length f → x .offset + (x .length + sealLength) ≤ length f → Lent f position x
+lent f position x h g =
+    let q₁ : position + entryLength - position ≡ entryLength = omega arith in
+    let q₂ : x .offset + (x .length + sealLength) - x .offset ≡ x .length + sealLength = omega arith in
+    let e₁ = ap (λ (n : ℕ). take n (drop position f)) q₁ in
+    let e₂ = ap (λ (n : ℕ). take n (drop (x .offset) f)) q₂ in
+    let d₁ = length-drop position f in
+    let d₂ = length-drop (x .offset) f in
+    record {
+      entry = e₁;
+      sealed = e₂;
+      entry-length = ap length e₁ ∙ length-take-le entryLength (drop position f) (omega (arith, d₁, h));
+      sealed-length = ap length e₂ ∙ length-take-le (x .length + sealLength) (drop (x .offset) f) (omega (arith, d₂, g));
+    }
 
 -- ---- the record of the entry x
 module _ (key f : Bytes) (e : Edition) (row : e ≡ editionIn f) (name : Name) (named : name ≡ nameIn f) (position : ℕ) (x : Entry) (is : x ≡ entryAt f position)

@@ -1,21 +1,19 @@
 -- `reader::open_record` meets its contract.
 -- Assumes nothing.
 use mathlib.Core.List.{append-nil}
-use mathlib.Core.Path.{_≡_, ap, _∙_}
-use Prim.Native.Nat.{ℕ, _+_, _-_}
+use mathlib.Core.Path.{_≡_, sym, ap, _∙_}
+use Prim.Native.Nat.{_+_}
 use native.Mathlib.Omega.{arith}
 use borrow.Author.Needs.{needs}
-use lib.ListN.{length, take, drop, length-drop}
-use lib.Seq.{length-take-le}
+use lib.ListN.{length, take, drop}
 use Rattle.bytes_le.specs.Bytes.{Bytes}
 use Rattle.burst.specs.declared.Entry.{Entry}
 use Rattle.burst.specs.Parts.{sealLength}
-use Rattle.burst.specs.Layout.{entryLength}
 use Rattle.burst.proofs.Rows.{numbered-known}
 use Rattle.reader.specs.declared.Fetched.{Fetched}
 use Rattle.reader.specs.Front.{editionNumberIn}
-use Rattle.reader.specs.Reader.{recordPart}
-use Rattle.reader.proofs.Opens.{mark-told, body-told, record-answer, record-output}
+use Rattle.reader.specs.Reader.{recordPart, sealedIn}
+use Rattle.reader.proofs.Opens.{lent, mark-told, body-told, record-answer, record-output}
 use Rattle.reader.proofs.open_record.Statement.{statement}
 use Rattle.reader.proofs.open_record.Tie as tie
 
@@ -24,17 +22,9 @@ edition-in-requires c κs = let k = numbered-known (editionNumberIn (c .before .
 
 open-part-requires : tie.Need-open-part-requires
 open-part-requires c κs =
-    let a = c .before .before .before .before .before .before .before .before .before .before .before .before .args in
     let p = c .before .before .before .before .before .before .before .before .before .before .before .before .pre in
-    let f = a .f .now in
-    let x = a .x in
-    let q₁ : a .position + entryLength - a .position ≡ entryLength = omega arith in
-    let q₂ : x .offset + (x .length + sealLength) - x .offset ≡ x .length + sealLength = omega arith in
-    let d₁ = length-drop (a .position) f in
-    let d₂ = length-drop (x .offset) f in
-    let l₁ = length-take-le (a .position + entryLength - a .position) (drop (a .position) f) (omega (arith, d₁, p)) in
-    let l₂ = length-take-le (x .offset + (x .length + sealLength) - x .offset) (drop (x .offset) f) (omega (arith, d₂, p)) in
-    (p .0, omega (arith, l₁, q₁), omega (arith, l₂, q₂), omega (arith, l₂, q₂, p), omega (arith, l₂, q₂, p))
+    let l = lent (c .before .before .before .before .before .before .before .before .before .before .before .before .args .f .now) (c .before .before .before .before .before .before .before .before .before .before .before .before .args .position) (c .before .before .before .before .before .before .before .before .before .before .before .before .args .x) (p .4) (p .5) in
+    (p .0, omega (arith, l), omega (arith, l), omega (arith, l, p), omega (arith, l, p))
 
 returns : tie.Need-returns
 returns c =
@@ -44,19 +34,13 @@ returns c =
     let f = a .f .now in
     let x = a .x in
     let part = recordPart f (a .position) in
-    let q₁ : a .position + entryLength - a .position ≡ entryLength = omega arith in
-    let q₂ : x .offset + (x .length + sealLength) - x .offset ≡ x .length + sealLength = omega arith in
-    let ea = append-nil _ ∙ ap (λ (n : ℕ). take n (drop (a .position) f)) q₁ in
-    let ec = ap (λ (n : ℕ). take n (drop (x .offset) f)) q₂ in
-    let n = ap (λ (y : Entry). y .length) (p .2) in
-    let o = ap (λ (y : Entry). y .offset) (p .2) in
-    let d = length-drop (part .offset) f in
-    let l = length-take-le (part .count + sealLength) (drop (part .offset) f) (omega (arith, d, n, o, p)) in
-    let r = c .before .before .before .open-part .ensures .0
-    ∙ record-answer k f _ (c .before .before .before .before .before .before .before .before .before .before .before .before .edition-in .ensures .0) _ (c .before .before .before .before .before .before .before .before .before .before .before .name-in .ensures) (a .position) x (p .2) _ ea _ ec in (
-      ap (λ (s : Bytes). let y : Fetched = record { refusal = 0; mark = 0; shot = x .shot; stamp = s; length = x .length } in y) (mark-told k f part _ r (p .3) (omega (arith, l))),
+    let l = lent f (a .position) x (p .4) (p .5) in
+    let ea = append-nil _ ∙ l .entry in
+    let r = c .before .before .before .open-part .ensures .0 ∙ record-answer k f _ (c .before .before .before .before .before .before .before .before .before .before .before .before .edition-in .ensures .0) _ (c .before .before .before .before .before .before .before .before .before .before .before .name-in .ensures) (a .position) x (p .2) _ ea _ (l .sealed) in
+    let z : length (sealedIn k f part) ≡ x .length + sealLength = sym (ap (λ (y : Entry). length (take (y .length + sealLength) (drop (y .offset) f))) (p .2)) ∙ sym (ap length (l .sealed)) ∙ l .sealed-length in (
+      ap (λ (s : Bytes). let y : Fetched = record { refusal = 0; mark = 0; shot = x .shot; stamp = s; length = x .length } in y) (mark-told k f part _ r (p .3) (omega (arith, z))),
       c .before .before .before .open-part .ensures .1
-          ∙ record-output k f _ (c .before .before .before .before .before .before .before .before .before .before .before .before .edition-in .ensures .0) _ (c .before .before .before .before .before .before .before .before .before .before .before .name-in .ensures) (a .position) x (p .2) _ ea _ ec (a .out .now)
+          ∙ record-output k f _ (c .before .before .before .before .before .before .before .before .before .before .before .before .edition-in .ensures .0) _ (c .before .before .before .before .before .before .before .before .before .before .before .name-in .ensures) (a .position) x (p .2) _ ea _ (l .sealed) (a .out .now)
           ∙ body-told k f part (a .out .now) (p .3),
     )
 
