@@ -2,6 +2,5 @@ pub mod Editions
 pub mod Parts
 pub mod Layout
 pub mod Numbers
-pub mod Plain
 pub mod Index
 pub mod Recorder

@@ -21,7 +21,7 @@ use Rattle.burst.specs.Editions.{fieldsLength, Known}
 use Rattle.burst.specs.Parts.{sealLength, sealPart, partMark, partBody}
 use Rattle.burst.specs.Layout.{Identity, headerRest, entryBytes, headerBytes, recordBytes, closingSeal}
 use Rattle.burst.specs.Index.{indexRules}
-use Rattle.burst.specs.Plain.{Shot, kept, gap, pictures, gaps, usedBy, records, index, Plain, headerOf, indexOf, fileOf, byValue, Call, keepShot, dropShot, closeBurst, CallList, numberOf, accepted, afterCall, afterCalls, begun, plainOf, beginRefusal}
+use Rattle.trace.specs.Plain.{Shot, kept, gap, pictures, gaps, usedBy, records, index, Plain, headerOf, indexOf, fileOf, byValue, Call, keepShot, dropShot, closeBurst, CallList, numberOf, accepted, afterCall, afterCalls, begun, plainOf, beginRefusal}
 use Rattle.burst.proofs.Rows.{numbered-among}
 use Rattle.burst.proofs.Rules.{and-true, index-used}
 use Rattle.burst.proofs.Numbers.{keep-0, drop-0, close-0, begin-0}

@@ -19,7 +19,7 @@ use Rattle.burst.specs.Editions.{maxEntries, numbered, Known}
 use Rattle.burst.specs.Parts.{Fits, partAgrees, partMark}
 use Rattle.burst.specs.Layout.{maxPicture, Identity, headerBytes, recordBytes, closingSeal}
 use Rattle.burst.specs.Index.{indexRules}
-use Rattle.burst.specs.Plain.{Shot, kept, gap, pictures, gaps, usedBy, records, index, Plain, headerOf, indexOf, fileOf, CallList, plainOf}
+use Rattle.trace.specs.Plain.{Shot, kept, gap, pictures, gaps, usedBy, records, index, Plain, headerOf, indexOf, fileOf, CallList, plainOf}
 use Rattle.burst.proofs.Rows.{known, written-among}
 use Rattle.burst.proofs.Puts.{length-header}
 use Rattle.burst.proofs.Parts.{part-agrees, part-mark}

@@ -13,7 +13,7 @@ use Rattle.bytes_le.specs.Bytes.{Bytes}
 use Rattle.icepole.specs.Sealing.{pick}
 use Rattle.burst.specs.declared.Edition.{Edition}
 use Rattle.burst.specs.Layout.{Identity}
-use Rattle.burst.specs.Plain.{kept, gap, Plain, noBurst, Way, Call, keepShot, dropShot, closeBurst, CallList, numberOf, accepted, afterCall, answerOf, afterCalls, answersOf, begun, plainOf, plainAnswers, beginRefusal}
+use Rattle.trace.specs.Plain.{kept, gap, Plain, noBurst, Way, Call, keepShot, dropShot, closeBurst, CallList, numberOf, accepted, afterCall, answerOf, afterCalls, answersOf, begun, plainOf, plainAnswers, beginRefusal}
 use Rattle.burst.proofs.Rules.{clash}
 use Rattle.burst.proofs.Numbers.{keeps, drops, begins, keep-8, drop-8, close-8}
 use Rattle.trace.specs.Agreement.{Reached}

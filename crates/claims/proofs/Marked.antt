@@ -9,7 +9,7 @@ use Rattle.burst.specs.Editions.{numbered, written}
 use Rattle.burst.specs.Parts.{nonceOf}
 use Rattle.burst.specs.Layout.{headerRest, headerBytes, entryBytes}
 use Rattle.burst.specs.Numbers.{beginNumber, keepNumber, dropNumber, closeNumber}
-use Rattle.burst.specs.Plain.{totalOf, headerOf, indexOf, numberOf, accepted, valueOf, afterCall, answerOf, begun, plainOf, plainAnswers}
+use Rattle.trace.specs.Plain.{totalOf, headerOf, indexOf, numberOf, accepted, valueOf, afterCall, answerOf, begun, plainOf, plainAnswers}
 use Rattle.bytes_le.specs.Bytes.{leAt}
 use Rattle.burst.specs.Index.{entryRules, indexRules}
 use Rattle.reader.specs.Front.{entriesAt, restRules, frontRulesOf, frontRules}

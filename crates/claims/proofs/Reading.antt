@@ -17,7 +17,7 @@ use Rattle.burst.specs.Editions.{fieldsLength, maxEntries, Known}
 use Rattle.burst.specs.Parts.{Fits, partAgrees, partMark, partBody}
 use Rattle.burst.specs.Layout.{headerRest, entryBytes, headerBytes, recordBytes}
 use Rattle.burst.specs.Index.{entryOf}
-use Rattle.burst.specs.Plain.{Shot, kept, gap, pictures, usedBy, records, index}
+use Rattle.trace.specs.Plain.{Shot, kept, gap, pictures, usedBy, records, index}
 use Rattle.burst.proofs.Puts.{length-header}
 use Rattle.burst.proofs.Parts.{part-agrees, part-mark, part-body}
 use Rattle.reader.specs.Front.{editionIn, nameIn, allZero, restRules, editionNumberIn, takenIn, keptIn, droppedIn, pictureOffsetIn, indexOffsetIn, closingOffsetIn, totalIn, entryAt, entriesAt}

@@ -24,7 +24,7 @@ use Rattle.burst.specs.Editions.{editions, _among_}
 use Rattle.burst.specs.Parts.{Fits}
 use Rattle.burst.specs.Layout.{maxPicture, recordBytes}
 use Rattle.burst.specs.Numbers.{usedAfter}
-use Rattle.burst.specs.Plain.{Shot, kept, gap, pictures, gaps, Plain, fileOf, Call, keepShot, dropShot, closeBurst, CallList, Answer, plainOf, plainAnswers, totalOf}
+use Rattle.trace.specs.Plain.{Shot, kept, gap, pictures, gaps, Plain, fileOf, Call, keepShot, dropShot, closeBurst, CallList, Answer, plainOf, plainAnswers, totalOf}
 use Rattle.trace.specs.Trace.{runBuffer}
 use Rattle.trace.specs.Agreement.{Reached, editionFor, Agreement}
 use Rattle.reader.specs.declared.Checked.{Checked}

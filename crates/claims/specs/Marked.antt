@@ -18,7 +18,7 @@ use Rattle.burst.specs.Editions.{edition1}
 use Rattle.burst.specs.Parts.{nonceOf}
 use Rattle.burst.specs.Layout.{closingOffset}
 use Rattle.burst.specs.Numbers.{beginNumber, keepNumber, dropNumber}
-use Rattle.burst.specs.Plain.{pictures, Plain, byValue, inPlace, keepShot, dropShot, closeBurst, CallList, Answer, usedOf, totalOf, headerOf, indexOf, plainOf, plainAnswers}
+use Rattle.trace.specs.Plain.{pictures, Plain, byValue, inPlace, keepShot, dropShot, closeBurst, CallList, Answer, usedOf, totalOf, headerOf, indexOf, plainOf, plainAnswers}
 use Rattle.reader.specs.Reader.{checkNumber}
 use Rattle.strips.specs.Answers.{stripNumber, endNumber}
 use Rattle.listing.specs.Text.{ascii}

@@ -18,7 +18,7 @@ use Rattle.icepole.specs.Sealing.{pick}
 use Rattle.burst.specs.declared.Recorder.{Recorder}
 use Rattle.burst.specs.declared.ShotAnswer.{ShotAnswer}
 use Rattle.burst.specs.declared.Closed.{Closed}
-use Rattle.burst.specs.Plain.{byValue, Call, keepShot, dropShot, closeBurst, Answer}
+use Rattle.trace.specs.Plain.{byValue, Call, keepShot, dropShot, closeBurst, Answer}
 use Rattle.burst.specs.Recorder.{keepAnswer, keepBuffer, dropAnswer, closeAnswer, closeBuffer}
 use Rattle.trace.specs.Trace.{nextRecorder, nextBuffer, answerTo, answersFrom, bufferFrom}
 use Rattle.replay.specs.declared.Step.{Step}

@@ -10,7 +10,7 @@ use lib.ListN.{length, drop}
 use Rattle.bytes_le.specs.Bytes.{Bytes, putBytes, le}
 use Rattle.bytes_le.proofs.Laws.{put-none}
 use Rattle.burst.specs.declared.Recorder.{Recorder}
-use Rattle.burst.specs.Plain.{Call, Answer}
+use Rattle.trace.specs.Plain.{Call, Answer}
 use Rattle.trace.specs.Trace.{nextRecorder, nextBuffer, answerTo, answersFrom, bufferFrom}
 use Rattle.replay.specs.declared.Step.{Step}
 use Rattle.replay.specs.Replay.{scriptCalls, answerBytes, answersBytes, stepOf, stepBuffer}

@@ -9,7 +9,7 @@ use Rattle.bytes_le.specs.Bytes.{Bytes, putBytes, le}
 use Rattle.bytes_le.proofs.Laws.{put-part, length-put}
 use Rattle.burst.specs.declared.Begun.{Begun}
 use Rattle.burst.specs.Layout.{Identity}
-use Rattle.burst.specs.Plain.{Call, CallList, Answer, plainOf, plainAnswers, totalOf}
+use Rattle.trace.specs.Plain.{Call, CallList, Answer, plainOf, plainAnswers, totalOf}
 use Rattle.burst.specs.Recorder.{beginAnswer, beginBuffer}
 use Rattle.trace.specs.Agreement.{editionFor}
 use Rattle.trace.specs.Trace.{answersFrom, bufferFrom, runAnswers, runBuffer}

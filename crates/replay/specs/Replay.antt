@@ -11,7 +11,7 @@ use Rattle.bytes_le.specs.Bytes.{Bytes, putBytes, le, leAt}
 use Rattle.icepole.specs.Sealing.{pick}
 use Rattle.burst.specs.declared.Recorder.{Recorder}
 use Rattle.burst.specs.Layout.{Identity}
-use Rattle.burst.specs.Plain.{byValue, Call, keepShot, dropShot, closeBurst, CallList, Answer, plainOf, plainAnswers, totalOf, fileOf}
+use Rattle.trace.specs.Plain.{byValue, Call, keepShot, dropShot, closeBurst, CallList, Answer, plainOf, plainAnswers, totalOf, fileOf}
 use Rattle.trace.specs.Trace.{nextRecorder, nextBuffer, answerTo, runBuffer}
 use Rattle.trace.specs.Agreement.{Reached, editionFor}
 use Rattle.replay.specs.declared.Step.{Step}

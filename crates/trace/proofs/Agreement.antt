@@ -21,7 +21,7 @@ use Rattle.burst.specs.Editions.{written, maxEntries, Known}
 use Rattle.burst.specs.Layout.{Identity, recordBytes, closingSeal}
 use Rattle.burst.specs.Numbers.{totalFrom, beginNumber}
 use Rattle.burst.specs.Index.{entryOf, indexRules, indexBytes}
-use Rattle.burst.specs.Plain.{Shot, kept, gap, pictures, gaps, usedBy, records, Plain, noBurst, totalOf, headerOf, indexOf, fileOf, Way, Call, keepShot, dropShot, closeBurst, CallList, Answer, numberOf, accepted, valueOf, afterCall, answerOf, afterCalls, answersOf, begun, plainOf, plainAnswers, beginRefusal}
+use Rattle.trace.specs.Plain.{Shot, kept, gap, pictures, gaps, usedBy, records, Plain, noBurst, totalOf, headerOf, indexOf, fileOf, Way, Call, keepShot, dropShot, closeBurst, CallList, Answer, numberOf, accepted, valueOf, afterCall, answerOf, afterCalls, answersOf, begun, plainOf, plainAnswers, beginRefusal}
 use Rattle.burst.specs.Recorder.{editionOf, nameOf, identityOf, isSound, newRecorder, noRecorder, beginRefused, beginAnswer, beginBuffer, afterDrop, dropRefused, dropAnswer, afterKeep, keepRefused, keepAnswer, keepBuffer, recorderHeader, recorderIndex, recorderSeal, afterClose, closeRefused, closeAnswer, closeBuffer}
 use Rattle.burst.proofs.Rows.{written-known}
 use Rattle.burst.proofs.Rules.{clash, sound-is}

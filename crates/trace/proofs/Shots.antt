@@ -14,7 +14,7 @@ use Rattle.burst.specs.declared.Edition.{Edition}
 use Rattle.burst.specs.declared.Name.{Name}
 use Rattle.burst.specs.Layout.{Identity, entryBytes, recordBytes, closingSeal}
 use Rattle.burst.specs.Index.{entryOf, indexRules, bytesOfEntry, indexBytes}
-use Rattle.burst.specs.Plain.{Shot, kept, gap, pictures, gaps, usedBy, records, index}
+use Rattle.trace.specs.Plain.{Shot, kept, gap, pictures, gaps, usedBy, records, index}
 use Rattle.burst.proofs.Rules.{Obeys, obeyed, index-end, index-next}
 use Rattle.burst.proofs.Puts.{length-entry}
 use Rattle.burst.proofs.Parts.{length-part}

@@ -6,7 +6,7 @@ use lib.ListN.{length, take}
 use Rattle.bytes_le.specs.Bytes.{Bytes}
 use Rattle.burst.specs.declared.Edition.{Edition}
 use Rattle.burst.specs.Editions.{written}
-use Rattle.burst.specs.Plain.{CallList, plainOf, plainAnswers, totalOf, fileOf, beginRefusal}
+use Rattle.trace.specs.Plain.{CallList, plainOf, plainAnswers, totalOf, fileOf, beginRefusal}
 use Rattle.trace.specs.Trace.{runAnswers, runBuffer}
 
 -- the list, as one of edition e, has an accepted close: it was begun, and its plain burst is closed

@@ -1,2 +1,3 @@
+pub mod Plain
 pub mod Trace
 pub mod Agreement

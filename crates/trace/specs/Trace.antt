@@ -6,7 +6,7 @@ use Rattle.bytes_le.specs.Bytes.{Bytes}
 use Rattle.burst.specs.declared.Recorder.{Recorder}
 use Rattle.burst.specs.declared.ShotAnswer.{ShotAnswer}
 use Rattle.burst.specs.declared.Closed.{Closed}
-use Rattle.burst.specs.Plain.{Call, keepShot, dropShot, closeBurst, CallList, Answer}
+use Rattle.trace.specs.Plain.{Call, keepShot, dropShot, closeBurst, CallList, Answer}
 use Rattle.burst.specs.Recorder.{beginAnswer, beginBuffer, keepAnswer, keepBuffer, dropAnswer, closeAnswer, closeBuffer}
 
 -- ---- one call

@@ -13,7 +13,7 @@ use lib.ListN.{length, drop, length-drop}
 use Rattle.bytes_le.specs.Bytes.{Bytes, putBytes}
 use Rattle.bytes_le.proofs.Laws.{put-none}
 use Rattle.burst.specs.declared.Recorder.{Recorder}
-use Rattle.burst.specs.Plain.{Call}
+use Rattle.trace.specs.Plain.{Call}
 use Rattle.trace.specs.Trace.{answersFrom, bufferFrom}
 use Rattle.replay.specs.declared.Step.{Step}
 use Rattle.replay.specs.Replay.{firstCall, scriptCalls, answersBytes, stepOf, stepBuffer}
