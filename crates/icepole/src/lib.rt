@@ -507,8 +507,8 @@ fn open_ready(
 }
 
 // ---- the calls
-// The number of sealing, from the lengths of what is lent.
-pub fn seal_number(
+// The number of sealing under sizes q, from the lengths of what is lent.
+fn seal_number_of(
     q: Sizes,
     key: usize,
     nonce: usize,
@@ -595,6 +595,22 @@ fn message_fits(q: Sizes, sealed: usize, out: usize) -> bool
     sealed - over <= out
 }
 
+// The number of sealing, from the lengths of what is lent.
+pub fn seal_number(
+    v: Variant,
+    key: usize,
+    nonce: usize,
+    secret: usize,
+    first: usize,
+    second: usize,
+    message: usize,
+    out: usize,
+) -> u32
+    ensures { λ r. ⌜ r ≡ sealNumber (sizes v) key nonce secret (first + second) message out ⌝ }
+{
+    seal_number_of(sizes_of(v), key, nonce, secret, first, second, message, out)
+}
+
 pub fn seal(
     v: Variant,
     key: &[u8],
@@ -609,7 +625,7 @@ pub fn seal(
         × (now (out .exit) ≡ sealOutput v (now (key .entry)) (now (nonce .entry)) (now (secret .entry)) (now (first .entry) ++ now (second .entry)) (now (message .entry)) (now (out .entry))) ⌝ }
 {
     let q = sizes_of(v);
-    let number = seal_number(
+    let number = seal_number_of(
         q,
         key.len(),
         nonce.len(),

@@ -45,23 +45,23 @@ module _ (q : Sizes) (k n s a o : ℕ) where
       let w = seal-fits q k n s a 0 (q .secret + 16) e in
       simp (eq-eqb k (q .key) (w .key), eq-eqb n (q .nonce) (w .nonce), eq-eqb s (q .secret) (w .secret), le-ltb maxLength a (w .associated), le-ltb o (q .secret) h)
 
--- the same in the terms of the code: num is the number that sealing gave, under sizes q
-module _ (q q′ : Sizes) (eq : q ≡ q′) (k n s a o num : ℕ) (e : num ≡ sealNumber q k n s a 0 (q .secret + 16)) where
-  sized : startNumber q k n s a o ≡ startNumber q′ k n s a o
-  sized = ap (λ (q : Sizes). startNumber q k n s a o) eq
+-- the same in the terms of the code: num is the number that sealing gave, and the code reads the sizes as q′
+module _ (q q′ : Sizes) (eq : q′ ≡ q) (k n s a o num : ℕ) (e : num ≡ sealNumber q k n s a 0 (q′ .secret + 16)) where
+  given : num ≡ sealNumber q k n s a 0 (q .secret + 16)
+  given = e ∙ ap (λ (q′ : Sizes). sealNumber q k n s a 0 (q′ .secret + 16)) eq
 
-  pub start-refused-by : (num ≡ 0 → ⊥) → num ≡ startNumber q′ k n s a o
+  pub start-refused-by : (num ≡ 0 → ⊥) → num ≡ startNumber q k n s a o
   start-refused-by h = by num refl
     where
-      by : (i : ℕ) → num ≡ i → num ≡ startNumber q′ k n s a o
+      by : (i : ℕ) → num ≡ i → num ≡ startNumber q k n s a o
       by zero z = absurd (h z)
-      by (suc i) z = z ∙ sym (start-stands q k n s a o i (sym e ∙ z)) ∙ sized
+      by (suc i) z = z ∙ sym (start-stands q k n s a o i (sym given ∙ z))
 
-  pub start-refused-5 : num ≡ 0 → o < q .secret → 5 ≡ startNumber q′ k n s a o
-  start-refused-5 z h = sym (start-5 q k n s a o (sym e ∙ z) h) ∙ sized
+  pub start-refused-5 : num ≡ 0 → o < q′ .secret → 5 ≡ startNumber q k n s a o
+  start-refused-5 z h = sym (start-5 q k n s a o (sym given ∙ z) (rw eq at h))
 
-  pub start-accepted-by : num ≡ 0 → q .secret ≤ o → 0 ≡ startNumber q′ k n s a o
-  start-accepted-by z h = sym (start-0 q k n s a o (sym e ∙ z) h) ∙ sized
+  pub start-accepted-by : num ≡ 0 → q′ .secret ≤ o → 0 ≡ startNumber q k n s a o
+  start-accepted-by z h = sym (start-0 q k n s a o (sym given ∙ z) (rw eq at h))
 
 -- ---- strip and end
 -- whether a state takes no more

@@ -54,7 +54,16 @@ pub fn start_number(
     ensures { λ r. ⌜ r ≡ startNumber (sizes Icepole128) key nonce secret (first + second) out ⌝ }
 {
     let q = icepole::sizes_of(Variant::Icepole128);
-    let number = icepole::seal_number(q, key, nonce, secret, first, second, 0, q.secret + TAG);
+    let number = icepole::seal_number(
+        Variant::Icepole128,
+        key,
+        nonce,
+        secret,
+        first,
+        second,
+        0,
+        q.secret + TAG,
+    );
     if number != 0 {
         return number;
     }

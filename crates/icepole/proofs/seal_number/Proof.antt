@@ -1,62 +1,26 @@
--- `icepole::seal_number` meets its contract: each answer from the tests that led to it.
+-- `icepole::seal_number` meets its contract: the sizes are the variant's.
 -- Assumes nothing.
-use native.Mathlib.Omega.{arith}
+use mathlib.Core.Path.{ap, _∙_}
+use Prim.Native.Nat.{_+_}
 use borrow.Author.Needs.{needs}
-use Rattle.icepole.proofs.Numbers.{seal-0, seal-1, seal-2, seal-3, seal-4, seal-4′, seal-5}
+use Rattle.icepole.specs.Answers.{sealNumber}
+use Rattle.icepole.specs.Bounds.{Bounded}
+use Rattle.icepole.specs.declared.Sizes.{Sizes}
+use Rattle.icepole.proofs.Bounds.{bounded-by}
 use Rattle.icepole.proofs.seal_number.Statement.{statement}
 use Rattle.icepole.proofs.seal_number.Tie as tie
 
--- src/lib.rt:522:9
+bounds : (p : tie.After-sizes-of) → Bounded (p .sizes-of .result)
+bounds p = bounded-by (p .before .args .v) _ (p .sizes-of .ensures)
+
+seal-number-of-requires : tie.Need-seal-number-of-requires
+seal-number-of-requires c κs = bounds c
+
 returns : tie.Need-returns
-returns c = seal-1 _ _ _ _ _ _ _ (λ e. omega arith)
-
--- src/lib.rt:525:9
-returns-2 : tie.Need-returns-2
-returns-2 c = seal-2 _ _ _ _ _ _ _ (omega arith) (λ e. omega arith)
-
--- src/lib.rt:528:9
-returns-3 : tie.Need-returns-3
-returns-3 c = seal-3 _ _ _ _ _ _ _ (omega arith) (omega arith) (λ e. omega arith)
-
--- src/lib.rt:531:9
-returns-4 : tie.Need-returns-4
-returns-4 c = seal-4 _ _ _ _ _ _ _ (omega arith) (omega arith) (omega arith) (omega arith)
-
--- src/lib.rt:534:9
-returns-5 : tie.Need-returns-5
-returns-5 c = seal-4 _ _ _ _ _ _ _ (omega arith) (omega arith) (omega arith) (omega arith)
-
--- src/lib.rt:537:9
-returns-6 : tie.Need-returns-6
-returns-6 c = seal-4′ _ _ _ _ _ _ _ (omega arith) (omega arith) (omega arith) (omega arith) (omega arith)
-
--- src/lib.rt:539:26
-add-if7 : tie.Need-add-if7
-add-if7 c = search needs
-
--- src/lib.rt:539:14
-add-if7-2 : tie.Need-add-if7-2
-add-if7-2 c = search needs
-
--- src/lib.rt:540:9
-returns-7 : tie.Need-returns-7
-returns-7 c = seal-5 _ _ _ _ _ _ _ (omega arith) (omega arith) (omega arith) (omega arith) (omega arith) (omega arith)
-
--- src/lib.rt:508:1
-returns-8 : tie.Need-returns-8
-returns-8 c = seal-0 _ _ _ _ _ _ _ (omega arith) (omega arith) (omega arith) (omega arith) (omega arith) (omega arith)
+returns c =
+    let a = c .before .before .args in
+    c .seal-number-of .ensures
+    ∙ ap (λ (q : Sizes). sealNumber q (a .key) (a .nonce) (a .secret) (a .first + a .second) (a .message) (a .out)) (c .before .sizes-of .ensures)
 
 pub seal-number-spec : {M : Type 1} → statement M
-seal-number-spec =
-    tie.close
-    (tie.spec
-    returns
-    returns-2
-    returns-3
-    returns-4
-    returns-5
-    returns-6
-    add-if7
-    add-if7-2
-    returns-7
-    returns-8)
+seal-number-spec = tie.close (tie.spec (λ c κs. search needs) seal-number-of-requires returns)

@@ -11,9 +11,6 @@ use Rattle.strips.proofs.start_number.Tie as tie
 add-seal-number : tie.Need-add-seal-number
 add-seal-number c = let h = bounded-by Icepole128 _ (c .before .sizes-of .ensures) in omega (arith, h .secret)
 
-seal-number-requires : tie.Need-seal-number-requires
-seal-number-requires c κs = bounded-by Icepole128 _ (c .before .sizes-of .ensures)
-
 returns : tie.Need-returns
 returns c = start-refused-by _ _ (c .before .before .before .sizes-of .ensures) _ _ _ _ _ _ (c .before .seal-number .ensures) (c .if1 .taken)
 
@@ -25,4 +22,4 @@ returns-3 c = start-accepted-by _ _ (c .before .before .before .before .before .
 
 pub start-number-spec : {M : Type 1} → statement M
 start-number-spec =
-    tie.close (tie.spec (λ c κs. search needs) add-seal-number seal-number-requires returns returns-2 returns-3)
+    tie.close (tie.spec (λ c κs. search needs) add-seal-number (λ c κs. search needs) returns returns-2 returns-3)
