@@ -9,108 +9,109 @@ use native.Mathlib.Nat.{sub-zero}
 use borrow.Author.Tests.{ne-eqb, le-leb, lt-leb}
 use lib.Dec.{leb}
 use lib.ListN.{length, take, replicate}
-use mathlib.Core.Option.{some}
+use lib.Seq.{length-take-le}
 use Rattle.bytes_le.specs.Bytes.{Bytes, le, putBytes}
-use Rattle.icepole.specs.Answers.{fitsOutput, openAnswer, openLength, openNumber, openOutput, openRefusal, openedAnswer, refusal, sealAnswer, sealRefusal, tagAgrees}
+use Rattle.icepole.specs.Answers.{fitsOutput, openAnswer, openLength, openNumber, openOutput, openRefusal, openedAnswer, sealAnswer, sealRefusal, tagAgrees, unless}
 use Rattle.icepole.specs.Sealing.{sealed, secretOf}
 use Rattle.icepole.specs.Variants.{sizes}
 use Rattle.icepole.specs.declared.Opened.{Opened}
 use Rattle.icepole.specs.declared.Sealed.{Sealed}
 use Rattle.icepole.specs.declared.Sizes.{Sizes}
 use Rattle.icepole.specs.declared.Variant.{Variant}
-use Rattle.bytes_le.proofs.Laws.{length-put, put-put, take-put}
+use Rattle.bytes_le.proofs.Laws.{length-put, put-put}
 use Rattle.icepole.proofs.Answers.{open-refused}
 use Rattle.icepole.proofs.Bounds.{bounded}
-use Rattle.icepole.proofs.Numbers.{OpenFits, open-fits}
+use Rattle.icepole.proofs.Numbers.{open-fits}
 use Rattle.icepole.proofs.Opening.{length-secret-of}
-use Rattle.icepole_c.specs.Calls.{callInfo, callOutput, callRefusal, fitsBoth}
+use Rattle.icepole_c.specs.Calls.{callAnswer, callInfo, callOutput, callRefusal, fitsBoth}
 
 pub seal-refusal : (v : Variant) (k n s a m o : Bytes) (r : Sealed) → r ≡ sealAnswer v k n s a m o → r .refusal ≡ sealRefusal v k n s a m o
 unfolding sealAnswer
 seal-refusal v k n s a m o r e = ap (λ (r : Sealed). r .refusal) e
 
-open-refusal : (v : Variant) (k n a c : Bytes) (fits : Bool) (r : Opened) → r ≡ openAnswer v k n a c fits → r .refusal ≡ openRefusal v k n a c fits
-unfolding openAnswer
-open-refusal v k n a c fits r e = ap (λ (r : Opened). r .refusal) e
+-- ---- r is what the C call answers
+module _ (v : Variant) (k n a c o t : Bytes) (r : Opened) (e : r ≡ callAnswer v k n a c o t) where
+  number-is : r .refusal ≡ callRefusal v k n a c o t
+  number-is = ap (λ (r : Opened). r .refusal) e
 
--- the answer of a refused call
-abbrev Refused : Variant → Bytes → Bytes → Bytes → Bytes → Bytes → Bytes → ℕ → Type 0
-Refused v k n a c o t num = (num ≡ callRefusal v k n a c o t) × (o ≡ callOutput v k n a c o t) × (t ≡ callInfo v k n a c o t)
+  untold : (r .refusal ≡ 0 → ⊥) → t ≡ callInfo v k n a c o t
+  unfolding callInfo
+  untold h = sym (simp (ne-eqb (callRefusal v k n a c o t) 0 (λ z. h (number-is ∙ z))))
 
-untold : (v : Variant) (k n a c o t : Bytes) (num : ℕ) → (num ≡ 0 → ⊥) → num ≡ callRefusal v k n a c o t → t ≡ callInfo v k n a c o t
-unfolding callInfo
-untold v k n a c o t num h e = sym (simp (ne-eqb (callRefusal v k n a c o t) 0 (λ z. h (e ∙ z))))
-
-refused-call : (v : Variant) (k n a c o t : Bytes) (fits : Bool) → fitsBoth v k n a c o t ≡ fits → (num : ℕ) → (num ≡ 0 → ⊥)
-    → num ≡ openRefusal v k n a c fits → o ≡ openOutput v k n a c fits o → Refused v k n a c o t num
-refused-call v k n a c o t fits ef num h e eo =
-    let e′ : num ≡ callRefusal v k n a c o t = e ∙ ap (openRefusal v k n a c) (sym ef) in
-    (e′, eo ∙ ap (λ (b : Bool). openOutput v k n a c b o) (sym ef), untold v k n a c o t num h e′)
+  -- where it is done, the length and the secret number are put at the front of t
+  told-by : r .refusal ≡ 0 → putBytes t 0 (le 8 (r .length) ++ take (sizes v .secret) (r .secret)) ≡ callInfo v k n a c o t
+  unfolding callInfo
+  told-by z =
+      sym (simp z)
+      ∙ ap (λ (r : Opened). unless (r .refusal) t (putBytes t 0 (le 8 (r .length) ++ take (sizes v .secret) (r .secret)))) e
 
 false-true : false ≡ true → ⊥
 false-true e = let z : _≡_ {A = ℕ} 0 1 = cc in omega arith
 
 -- ---- the further slice is too short
 pub short-call : (v : Variant) (k n f g c o t : Bytes) (num : ℕ) → length t < 8 + sizes v .secret
-    → num ≡ openNumber (sizes v) (length k) (length n) (length f + length g) (length c) false true → Refused v k n (f ++ g) c o t num
+    → num ≡ openNumber (sizes v) (length k) (length n) (length f + length g) (length c) false true
+    → (num ≡ callRefusal v k n (f ++ g) c o t) × (o ≡ callOutput v k n (f ++ g) c o t) × (t ≡ callInfo v k n (f ++ g) c o t)
 short-call v k n f g c o t num h e =
-    let b : leb (8 + sizes v .secret) (length t) ≡ false = lt-leb (8 + sizes v .secret) (length t) h in
+    let b : fitsBoth v k n (f ++ g) c o t ≡ false = ap (λ (b : Bool). b && fitsOutput v c o) (lt-leb (8 + sizes v .secret) (length t) h) in
     let some : num ≡ 0 → ⊥ =
     λ z. false-true (open-fits (sizes v) (length k) (length n) (length f + length g) (length c) false true (sym e ∙ z) .room) in
     let x = open-refused v (sizes v) refl k n f g c false num e some (openedAnswer num 0 []) refl in
-    refused-call v k n (f ++ g) c o t false (ap (λ (b : Bool). b && fitsOutput v c o) b) num some
-    (open-refusal v k n (f ++ g) c false (openedAnswer num 0 []) (x .0)) (x .1 o)
+    let a : openedAnswer num 0 [] ≡ callAnswer v k n (f ++ g) c o t = x .0 ∙ ap (openAnswer v k n (f ++ g) c) (sym b) in (
+      number-is v k n (f ++ g) c o t (openedAnswer num 0 []) a,
+      x .1 o ∙ ap (λ (b : Bool). openOutput v k n (f ++ g) c b o) (sym b),
+      untold v k n (f ++ g) c o t (openedAnswer num 0 []) a some,
+    )
 
 -- ---- it is long enough, and r is what opening answered
 module _ (v : Variant) (k n a c o t : Bytes) (r : Opened) (e : r ≡ openAnswer v k n a c (fitsOutput v c o)) (h : 8 + sizes v .secret ≤ length t) where
   both : fitsBoth v k n a c o t ≡ fitsOutput v c o
   both = ap (λ (b : Bool). b && fitsOutput v c o) (le-leb (8 + sizes v .secret) (length t) h)
 
-  refusal-is : r .refusal ≡ openRefusal v k n a c (fitsOutput v c o)
-  refusal-is = open-refusal v k n a c (fitsOutput v c o) r e
+  is-answer : r ≡ callAnswer v k n a c o t
+  is-answer = e ∙ ap (openAnswer v k n a c) (sym both)
+
+  is-output : (o′ : Bytes) → o′ ≡ openOutput v k n a c (fitsOutput v c o) o → o′ ≡ callOutput v k n a c o t
+  is-output o′ eo = eo ∙ ap (λ (b : Bool). openOutput v k n a c b o) (sym both)
 
   pub open-refused-call : (r .refusal ≡ 0 → ⊥) → (o′ : Bytes) → o′ ≡ openOutput v k n a c (fitsOutput v c o) o
       → (r .refusal ≡ callRefusal v k n a c o t) × (o′ ≡ callOutput v k n a c o t) × (t ≡ callInfo v k n a c o t)
-  open-refused-call z o′ eo =
-      let e′ : r .refusal ≡ callRefusal v k n a c o t = refusal-is ∙ ap (openRefusal v k n a c) (sym both) in
-      (e′, eo ∙ ap (λ (b : Bool). openOutput v k n a c b o) (sym both), untold v k n a c o t (r .refusal) z e′)
+  open-refused-call z o′ eo = (number-is v k n a c o t r is-answer, is-output o′ eo, untold v k n a c o t r is-answer z)
 
   module _ (z : r .refusal ≡ 0) where
-    answered : r ≡ openedAnswer 0 (openLength v c) (secretOf (sizes v) k n c)
+    number-0 : openRefusal v k n a c (fitsOutput v c o) ≡ 0
     unfolding openAnswer
-    answered = e ∙ ap (λ (i : ℕ). openedAnswer i (openLength v c) (secretOf (sizes v) k n c)) (sym refusal-is ∙ z)
+    number-0 = sym (ap (λ (r : Opened). r .refusal) e) ∙ z
 
-    fits : OpenFits (sizes v) (length k) (length n) (length a) (length c) (fitsOutput v c o) (tagAgrees (sizes v) k n a c)
+    sealed-fits : sizes v .secret + 16 ≤ length c
     unfolding openRefusal
-    fits = open-fits (sizes v) (length k) (length n) (length a) (length c) (fitsOutput v c o) (tagAgrees (sizes v) k n a c) (sym refusal-is ∙ z)
+    sealed-fits =
+        open-fits (sizes v) (length k) (length n) (length a) (length c) (fitsOutput v c o) (tagAgrees (sizes v) k n a c) number-0 .sealed
 
     length-secret : length (secretOf (sizes v) k n c) ≡ sizes v .secret
     length-secret =
         let h = bounded v in
-        length-secret-of (sizes v) (h .some) (h .block) (omega (arith, h .secret)) k n a c (fits .sealed)
+        length-secret-of (sizes v) (h .some) (h .block) (omega (arith, h .secret)) k n a c sealed-fits
 
     pub length-got : length (r .secret) ≡ 16
+    unfolding openAnswer
     length-got =
         let l : length (secretOf (sizes v) k n c) ≡ sizes v .secret = length-secret in
-        ap (λ (r : Opened). length (r .secret)) answered ∙ length-put (replicate 16 0) 0 (secretOf (sizes v) k n c) (omega (arith, bounded v .secret))
+        ap (λ (r : Opened). length (r .secret)) e
+        ∙ ap (λ (i : ℕ). length (openedAnswer i (openLength v c) (secretOf (sizes v) k n c) .secret)) number-0
+        ∙ length-put (replicate 16 0) 0 (secretOf (sizes v) k n c) (omega (arith, bounded v .secret))
 
     pub told : (q : Sizes) → q ≡ sizes v → (t₁ t₂ : Bytes) → t₁ ≡ putBytes t 0 (le 8 (r .length)) → t₂ ≡ putBytes t₁ 8 (take (q .secret - 0) (r .secret))
         → t₂ ≡ callInfo v k n a c o t
-    unfolding callInfo
     told q eq t₁ t₂ e₁ e₂ =
         let f : sizes v .secret ≤ 16 = bounded v .secret in
-        let l : length (secretOf (sizes v) k n c) ≡ sizes v .secret = length-secret in
-        let el : r .length ≡ openLength v c = ap (λ (r : Opened). r .length) answered in
-        let es : take (q .secret - 0) (r .secret) ≡ secretOf (sizes v) k n c =
-        ap (λ (q : Sizes). take (q .secret - 0) (r .secret)) eq
-        ∙ ap (λ (i : ℕ). take i (r .secret)) (sub-zero (sizes v .secret))
-        ∙ ap (λ (r : Opened). take (sizes v .secret) (r .secret)) answered
-        ∙ take-put (replicate 16 0) 0 (secretOf (sizes v) k n c) (sizes v .secret) (omega arith) (omega arith) in
-        let y : callRefusal v k n a c o t ≡ 0 = ap (openRefusal v k n a c) both ∙ sym refusal-is ∙ z in
-        e₂ ∙ ap₂ (λ (t s : Bytes). putBytes t 8 s) (e₁ ∙ ap (λ (i : ℕ). putBytes t 0 (le 8 i)) el) es
-        ∙ put-put t 0 (le 8 (openLength v c)) (secretOf (sizes v) k n c) 8 refl (omega arith)
-        ∙ sym (simp y)
+        let g : length (r .secret) ≡ 16 = length-got in
+        let l : length (take (sizes v .secret) (r .secret)) ≡ sizes v .secret = length-take-le (sizes v .secret) (r .secret) (omega arith) in
+        let es : take (q .secret - 0) (r .secret) ≡ take (sizes v .secret) (r .secret) =
+        ap (λ (i : ℕ). take i (r .secret)) (sub-zero (q .secret) ∙ ap (λ (q : Sizes). q .secret) eq) in
+        e₂ ∙ ap₂ (λ (t s : Bytes). putBytes t 8 s) e₁ es
+        ∙ put-put t 0 (le 8 (r .length)) (take (sizes v .secret) (r .secret)) 8 refl (omega arith)
+        ∙ told-by v k n a c o t r is-answer z
 
     pub opened-call : (o′ : Bytes) → o′ ≡ openOutput v k n a c (fitsOutput v c o) o → (0 ≡ callRefusal v k n a c o t) × (o′ ≡ callOutput v k n a c o t)
-    opened-call o′ eo =
-        (sym z ∙ refusal-is ∙ ap (openRefusal v k n a c) (sym both), eo ∙ ap (λ (b : Bool). openOutput v k n a c b o) (sym both))
+    opened-call o′ eo = (sym z ∙ number-is v k n a c o t r is-answer, is-output o′ eo)

@@ -4,23 +4,27 @@ use mathlib.Core.Bool.{Bool, _&&_}
 use mathlib.Core.List.{_++_}
 use Prim.Native.Nat.{ℕ, _+_}
 use lib.Dec.{leb}
-use lib.ListN.{length}
+use lib.ListN.{length, take}
 use Rattle.bytes_le.specs.Bytes.{Bytes, putBytes, le}
+use Rattle.icepole.specs.declared.Opened.{Opened}
 use Rattle.icepole.specs.declared.Variant.{Variant}
 use Rattle.icepole.specs.Variants.{sizes}
-use Rattle.icepole.specs.Sealing.{secretOf}
-use Rattle.icepole.specs.Answers.{openRefusal, openLength, openOutput, fitsOutput, unless}
+use Rattle.icepole.specs.Answers.{openAnswer, openOutput, fitsOutput, unless}
 
 module _ (v : Variant) (key nonce ad c out info : Bytes) where
   -- whether info and out are both long enough; else 5
   abbrev pub fitsBoth : Bool
   fitsBoth = leb (8 + sizes v .secret) (length info) && fitsOutput v c out
 
+  -- what opening answers: the C call returns its number and puts the rest into info
+  abbrev pub callAnswer : Opened
+  callAnswer = openAnswer v key nonce ad c fitsBoth
+
   abbrev pub callRefusal : ℕ
-  callRefusal = openRefusal v key nonce ad c fitsBoth
+  callRefusal = callAnswer .refusal
 
   abbrev pub callOutput : Bytes
   callOutput = openOutput v key nonce ad c fitsBoth out
 
   unfoldable pub callInfo : Bytes
-  callInfo = unless callRefusal info (putBytes info 0 (le 8 (openLength v c) ++ secretOf (sizes v) key nonce c))
+  callInfo = unless callRefusal info (putBytes info 0 (le 8 (callAnswer .length) ++ take (sizes v .secret) (callAnswer .secret)))
