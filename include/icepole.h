@@ -26,17 +26,18 @@ extern "C" {
 #endif
 
 /* The refusal numbers. Sealing tests them in the order 1, 2, 3, 4, 5; opening in the order 1, 2, 4, 6, 5, 7; start in the order 1, 2, 3, 4, 5;
- * strip in the order 14, 4, 5; end in the order 14, 5. */
+ * strip in the order 14, 4, 5; end in the order 14, 5. A state slice that is too short gets 5: in start after all others, in strip and end
+ * before them, since there is no state to judge. */
 enum icepole_refusal {
     ICEPOLE_DONE = 0,
     ICEPOLE_KEY_LENGTH = 1,       /* the key has another length than the variant's */
     ICEPOLE_NONCE_LENGTH = 2,     /* the nonce has another length than the variant's */
     ICEPOLE_SECRET_LENGTH = 3,    /* the secret number has another length than the variant's */
     ICEPOLE_DATA_TOO_LONG = 4,    /* associated data (both parts together) or message, also the one that a sealed message implies or strips add up to, is above ICEPOLE_MAX_BYTES */
-    ICEPOLE_OUTPUT_TOO_SHORT = 5, /* out, in opening info, or in start state, is too short */
+    ICEPOLE_OUTPUT_TOO_SHORT = 5, /* out, in opening info, or in strips state, is too short */
     ICEPOLE_SEALED_TOO_SHORT = 6, /* the sealed message is shorter than the sealed secret number and the tag */
     ICEPOLE_TAG_DIFFERS = 7,      /* the tag differs: not sealed under this key, nonce and associated data */
-    ICEPOLE_STRIP_STATE = 14      /* the strip state is finished, its count is above ICEPOLE_MAX_BYTES, or its slice is too short to hold one */
+    ICEPOLE_STRIP_STATE = 14      /* the strip state is finished, or its count is above ICEPOLE_MAX_BYTES */
 };
 
 /* Associated data and message are at most so many bytes each. */

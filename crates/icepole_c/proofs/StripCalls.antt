@@ -31,12 +31,12 @@ state-put b b₁ b₂ b₃ v n f i j hb hv ei e₁ ej e₂ e₃ =
 -- ---- strip and end alike: what the call answers on the state in st, and the output it leaves
 module _ (st o : Bytes) (ans : StripAnswer) (o₂ : Bytes) where
   abbrev number : ℕ
-  number = pick (ltb (length st) 169) 14 (ans .refusal)
+  number = pick (ltb (length st) 169) 5 (ans .refusal)
 
   abbrev Leaves : ℕ → Bytes → Bytes → Type 0
   Leaves n s b = (n ≡ number) × (s ≡ unless number st (putBytes st 0 (stripStateBytes (ans .state)))) × (b ≡ unless number o o₂)
 
-  short : length st < 169 → Leaves 14 st o
+  short : length st < 169 → Leaves 5 st o
   short h = let z = lt-ltb (length st) 169 h in (sym (simp z), sym (simp z), sym (simp z))
 
   module _ (h : 169 ≤ length st) (r : StripAnswer) (er : r ≡ ans) (o′ : Bytes) (eo : o′ ≡ o₂) where
@@ -56,7 +56,7 @@ module _ (st o : Bytes) (ans : StripAnswer) (o₂ : Bytes) where
           eo ∙ sym (simp (z, w)),
         )
 
-pub strip-short : (st m o : Bytes) → length st < 169 → (14 ≡ stripCallNumber st m o) × (st ≡ stripCallState st m o) × (o ≡ stripCallOutput st m o)
+pub strip-short : (st m o : Bytes) → length st < 169 → (5 ≡ stripCallNumber st m o) × (st ≡ stripCallState st m o) × (o ≡ stripCallOutput st m o)
 unfolding stripCallNumber stripCallState stripCallOutput stripAnswer
 strip-short st m o = short st o (stripAnswer (stripStateIn st) m o) (stripOutput (stripStateIn st) m o)
 
@@ -74,7 +74,7 @@ module _ (st m o : Bytes) (h : 169 ≤ length st) (s : StripState) (es : s ≡ s
   strip-done =
       done st o (stripAnswer (stripStateIn st) m o) (stripOutput (stripStateIn st) m o) h r (er ∙ ap (λ (s : StripState). stripAnswer s m o) es) o′ (eo ∙ ap (λ (s : StripState). stripOutput s m o) es)
 
-pub end-short : (st o : Bytes) → length st < 169 → (14 ≡ endCallNumber st o) × (st ≡ endCallState st o) × (o ≡ endCallOutput st o)
+pub end-short : (st o : Bytes) → length st < 169 → (5 ≡ endCallNumber st o) × (st ≡ endCallState st o) × (o ≡ endCallOutput st o)
 unfolding endCallNumber endCallState endCallOutput endAnswer
 end-short st o = short st o (endAnswer (stripStateIn st) o) (endOutput (stripStateIn st) o)
 

@@ -26,7 +26,7 @@ stripStateBytes s = s .bytes ++ (le 8 (s .count) ++ le 1 (flag (s .finished)))
 abbrev pub stripStateIn : Bytes → StripState
 stripStateIn b = record { bytes = take 160 b; count = leAt 8 b 160; finished = not (eqb (getD b 168 0) 0) }
 
--- ---- start: its numbers, then 5 for the state. The state that it returns is put where it is lent, that of a start turned down too
+-- ---- start: its numbers, then 5 where the slice is too short for a state. The state that it returns is put where it is lent, that of a start turned down too
 module _ (key nonce secret ad out state : Bytes) where
   unfoldable pub startCallNumber : ℕ
   startCallNumber =
@@ -41,10 +41,10 @@ module _ (key nonce secret ad out state : Bytes) where
   unfoldable pub startCallState : Bytes
   startCallState = pick (ltb (length state) stripStateLength) state (putBytes state 0 (stripStateBytes (startAnswer key nonce secret ad out .state)))
 
--- ---- strip and end: too few bytes are no state, which is 14
+-- ---- strip and end: 5 before all else where the slice is too short, for there is no state to judge
 module _ (state m out : Bytes) where
   unfoldable pub stripCallNumber : ℕ
-  stripCallNumber = pick (ltb (length state) stripStateLength) 14 (stripRefusal (stripStateIn state) m out)
+  stripCallNumber = pick (ltb (length state) stripStateLength) 5 (stripRefusal (stripStateIn state) m out)
 
   unfoldable pub stripCallOutput : Bytes
   stripCallOutput = unless stripCallNumber out (stripOutput (stripStateIn state) m out)
@@ -54,7 +54,7 @@ module _ (state m out : Bytes) where
 
 module _ (state out : Bytes) where
   unfoldable pub endCallNumber : ℕ
-  endCallNumber = pick (ltb (length state) stripStateLength) 14 (endRefusal (stripStateIn state) out)
+  endCallNumber = pick (ltb (length state) stripStateLength) 5 (endRefusal (stripStateIn state) out)
 
   unfoldable pub endCallOutput : Bytes
   endCallOutput = unless endCallNumber out (endOutput (stripStateIn state) out)

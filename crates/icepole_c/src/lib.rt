@@ -1,7 +1,6 @@
 // The calls of the camera's main firmware, which is in C: sealing and opening, one pair for each variant, and strips of 128. Each returns the refusal number, 0 when done. include/icepole.h declares them.
 use icepole::OUTPUT_TOO_SHORT;
 use icepole::Variant;
-use strips::STRIP_STATE;
 use strips::StripState;
 ghost use mathlib.Core.Path.{_≡_};
 ghost use mathlib.Core.List.{_++_};
@@ -299,7 +298,7 @@ pub extern "C" fn icepole128_strip(state: &mut [u8], message: &[u8], out: &mut [
         × (now (out .exit) ≡ stripCallOutput (now (state .entry)) (now (message .entry)) (now (out .entry))) ⌝ }
 {
     if state.len() < STRIP_STATE_LENGTH {
-        return STRIP_STATE;
+        return OUTPUT_TOO_SHORT;
     }
     let r = strips::strip(strip_state_in(state), message, out);
     if r.refusal != 0 {
@@ -317,7 +316,7 @@ pub extern "C" fn icepole128_end(state: &mut [u8], out: &mut [u8]) -> u32
         × (now (out .exit) ≡ endCallOutput (now (state .entry)) (now (out .entry))) ⌝ }
 {
     if state.len() < STRIP_STATE_LENGTH {
-        return STRIP_STATE;
+        return OUTPUT_TOO_SHORT;
     }
     let r = strips::end(strip_state_in(state), out);
     if r.refusal != 0 {
