@@ -2,6 +2,8 @@ pub mod Marked
 pub mod Permutation
 pub mod PaperBits
 pub mod Demand2
+pub mod StripLists
+pub mod StripCallLists
 pub mod Reading
 pub mod Lists
 pub mod Back

@@ -2,4 +2,5 @@ pub mod Marked
 pub mod Permutation
 pub mod PaperBits
 pub mod Demand2
+pub mod StripLists
 pub mod Demand3

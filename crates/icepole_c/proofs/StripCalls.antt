@@ -3,20 +3,19 @@
 use mathlib.Core.Path.{_≡_, refl, sym, ap, _∙_}
 use mathlib.Core.List.{_++_, append-assoc}
 use mathlib.Core.Bool.{Bool, true, false, not}
-use Prim.Native.Nat.{ℕ, zero, suc, _+_, _%_, _≤_, _<_}
+use Prim.Native.Nat.{ℕ, zero, suc, _+_, _≤_, _<_}
 use native.Mathlib.Omega.{arith}
 use borrow.Author.Tests.{ne-eqb, le-ltb, lt-ltb}
 use lib.Dec.{eqb, ltb}
-use lib.ListN.{length, take, drop, getD, length-append}
-use lib.Seq.{take-at, drop-at, getD-append-seam}
-use Rattle.bytes_le.specs.Bytes.{Bytes, putBytes, le, leAt, unle}
-use Rattle.bytes_le.proofs.Laws.{put-front, put-put, unle-8}
+use lib.ListN.{length, length-append}
+use Rattle.bytes_le.specs.Bytes.{Bytes, putBytes, le}
+use Rattle.bytes_le.proofs.Laws.{put-put}
 use Rattle.icepole.specs.Sealing.{pick}
 use Rattle.icepole.specs.Answers.{unless}
 use Rattle.strips.specs.declared.StripState.{StripState}
 use Rattle.strips.specs.declared.StripAnswer.{StripAnswer}
 use Rattle.strips.specs.Answers.{startAnswer, startOutput, startRefusal, stripAnswer, stripOutput, stripRefusal, endAnswer, endOutput, endRefusal}
-use Rattle.icepole_c.specs.Strips.{StatePasses, flag, stripStateBytes, stripStateIn, startCallNumber, startCallOutput, startCallState, stripCallNumber, stripCallOutput, stripCallState, endCallNumber, endCallOutput, endCallState}
+use Rattle.icepole_c.specs.Strips.{stripStateBytes, stripStateIn, startCallNumber, startCallOutput, startCallState, stripCallNumber, stripCallOutput, stripCallState, endCallNumber, endCallOutput, endCallState}
 
 -- the three runs of a state's bytes touch
 pub state-put : (b b₁ b₂ b₃ v : Bytes) (n f i j : ℕ) → 169 ≤ length b → length v ≡ 160 → i ≡ length v → b₁ ≡ putBytes b 0 v
@@ -92,6 +91,14 @@ module _ (st o : Bytes) (h : 169 ≤ length st) (s : StripState) (es : s ≡ str
   end-done =
       done st o (endAnswer (stripStateIn st) o) (endOutput (stripStateIn st) o) h r (er ∙ ap (λ (s : StripState). endAnswer s o) es) o′ (eo ∙ ap (λ (s : StripState). endOutput s o) es)
 
+-- an output that stays where it is refused stays so under the same number
+pub twice : (i : ℕ) (o o′ : Bytes) → unless i o o′ ≡ unless i o (unless i o o′)
+twice i o o′ = by (eqb i 0)
+  where
+    by : (b : Bool) → pick b o′ o ≡ pick b (pick b o′ o) o
+    by true = refl
+    by false = refl
+
 -- ---- start
 module _ (k n s a o st : Bytes) where
   pub start-short-refused : length st < 169 → (num : ℕ) → num ≡ startRefusal k n s a o → (num ≡ 0 → ⊥)
@@ -110,21 +117,13 @@ module _ (k n s a o st : Bytes) where
       (sym (simp (w, z)), sym (simp (w, z)), sym (simp z))
 
   -- the number is that of start where the state is long enough
-  start-number : 169 ≤ length st → startCallNumber k n s a o st ≡ startRefusal k n s a o
+  pub start-number : 169 ≤ length st → startCallNumber k n s a o st ≡ startRefusal k n s a o
   unfolding startCallNumber
   start-number h = simp (le-ltb (length st) 169 h) (by (startRefusal k n s a o))
     where
       by : (i : ℕ) → pick (not (eqb i 0)) i 0 ≡ i
       by zero = refl
       by (suc i) = rw (ne-eqb (suc i) 0 (λ z. omega arith)) refl
-
-  -- an output that stays where it is refused stays so under the same number
-  twice : (i : ℕ) (o o′ : Bytes) → unless i o o′ ≡ unless i o (unless i o o′)
-  twice i o o′ = by (eqb i 0)
-    where
-      by : (b : Bool) → pick b o′ o ≡ pick b (pick b o′ o) o
-      by true = refl
-      by false = refl
 
   pub start-called : 169 ≤ length st → (r : StripAnswer) → r ≡ startAnswer k n s a o → (o′ : Bytes) → o′ ≡ startOutput k n s a o
       → (st′ : Bytes) → st′ ≡ putBytes st 0 (stripStateBytes (r .state))
@@ -135,35 +134,3 @@ module _ (k n s a o st : Bytes) where
     eo ∙ twice (startRefusal k n s a o) o _ ∙ ap (λ (i : ℕ). unless i o (startOutput k n s a o)) (sym (start-number h)),
     es ∙ ap (λ (r : StripAnswer). putBytes st 0 (stripStateBytes (r .state))) er ∙ sym (simp (le-ltb (length st) 169 h)),
   )
-
--- ---- a state passes from call to call
-abbrev stateOf3 : Bytes → ℕ → Bool → StripState
-stateOf3 v n f = record { bytes = v; count = n; finished = f }
-
-same-state : {v v′ : Bytes} {n n′ : ℕ} {f f′ : Bool} → v ≡ v′ → n ≡ n′ → f ≡ f′ → stateOf3 v n f ≡ stateOf3 v′ n′ f′
-same-state a b c = cc
-
-pub state-passes : StatePasses
-unfolding leAt
-state-passes b s hb hv hc =
-    let v : Bytes = s .bytes in
-    let n : Bytes = le 8 (s .count) in
-    let t : Bytes = le 1 (flag (s .finished)) in
-    let r : Bytes = drop (length (v ++ (n ++ t))) b in
-    let e : putBytes b 0 (v ++ (n ++ t)) ≡ v ++ (n ++ (t ++ r)) =
-    put-front b (v ++ (n ++ t)) ∙ append-assoc v (n ++ t) r ∙ ap (λ (l : Bytes). v ++ l) (append-assoc n t r) in
-    let lvn : length (v ++ n) ≡ 168 = length-append v n ∙ ap (λ (k : ℕ). k + 8) hv in
-    let e₁ : take 160 (putBytes b 0 (v ++ (n ++ t))) ≡ v = ap (take 160) e ∙ take-at v (n ++ (t ++ r)) 160 hv in
-    let e₂ : unle (take 8 (drop 160 (putBytes b 0 (v ++ (n ++ t))))) ≡ s .count =
-    ap (λ (l : Bytes). unle (take 8 (drop 160 l))) e
-    ∙ ap (λ (l : Bytes). unle (take 8 l)) (drop-at v (n ++ (t ++ r)) 160 hv)
-    ∙ ap unle (take-at n (t ++ r) 8 refl) ∙ unle-8 (s .count) hc in
-    let e₃ : getD (putBytes b 0 (v ++ (n ++ t))) 168 0 ≡ flag (s .finished) % 256 =
-    ap (λ (l : Bytes). getD l 168 0) (e ∙ sym (append-assoc v n (t ++ r)))
-    ∙ ap (λ (i : ℕ). getD ((v ++ n) ++ (t ++ r)) i 0) (sym lvn)
-    ∙ getD-append-seam (v ++ n) (flag (s .finished) % 256) r 0 in
-    same-state e₁ e₂ (ap (λ (x : ℕ). not (eqb x 0)) e₃ ∙ flagged (s .finished))
-  where
-    flagged : (f : Bool) → not (eqb (flag f % 256) 0) ≡ f
-    flagged true = refl
-    flagged false = refl

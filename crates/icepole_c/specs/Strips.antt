@@ -2,8 +2,7 @@
 -- Assumes nothing.
 use mathlib.Core.Bool.{Bool, true, false, not}
 use mathlib.Core.List.{[], _∷_, _++_}
-use mathlib.Core.Path.{_≡_}
-use Prim.Native.Nat.{ℕ, _≤_, _<_}
+use Prim.Native.Nat.{ℕ}
 use lib.Dec.{eqb, ltb}
 use lib.ListN.{length, take, getD}
 use Rattle.bytes_le.specs.Bytes.{Bytes, putBytes, le, leAt}
@@ -61,8 +60,3 @@ module _ (state out : Bytes) where
 
   unfoldable pub endCallState : Bytes
   endCallState = unless endCallNumber state (putBytes state 0 (stripStateBytes (endAnswer (stripStateIn state) out .state)))
-
--- ---- a state passes from call to call: what a call leaves is what the next call reads
-abbrev pub StatePasses : Type 0
-StatePasses = (b : Bytes) (s : StripState) → stripStateLength ≤ length b → length (s .bytes) ≡ 160 → s .count < 18446744073709551616
-    → stripStateIn (putBytes b 0 (stripStateBytes s)) ≡ s

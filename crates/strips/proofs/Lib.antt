@@ -2,4 +2,3 @@ pub mod Machine
 pub mod Numbers
 pub mod Turns
 pub mod Answers
-pub mod Lists

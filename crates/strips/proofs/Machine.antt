@@ -10,9 +10,10 @@ use native.Mathlib.Omega.{arith}
 use borrow.Author.Tests.{eq-eqb, ne-eqb}
 use lib.Bits.{bitXor}
 use lib.Dec.{eqb}
-use lib.ListN.{length, getD, take, drop, length-append, length-drop, take-append-drop}
+use lib.ListN.{length, getD, take, drop, length-append, length-drop, length-set, take-append-drop}
 use lib.Seq.{length-take-le}
 use Rattle.bytes_le.specs.Bytes.{Bytes}
+use Rattle.state_bytes.proofs.Lengths.{length-permuted}
 use Rattle.icepole.specs.Sealing.{_⊕_, xorWith, absorb, absorbMessage, encrypt, pick, tag}
 use Rattle.icepole.proofs.Xor.{getD-xor-with, xor-none, xor-snoc, xor-with-snoc}
 use Rattle.icepole.proofs.Steps.{padded}
@@ -31,6 +32,19 @@ bytes-join r h (x ∷ s) t = ap (λ (l : Bytes). cipherByte r h x ∷ l) (bytes-
 pub length-fed : (r : ℕ) (h : Held) (m : Bytes) → length (fedBytes r h m) ≡ length m
 length-fed r h [] = refl
 length-fed r h (x ∷ m) = ap suc (length-fed r (step r h x) m)
+
+-- ---- the state keeps its 160 bytes
+length-room : (r : ℕ) (h : Held) → length (h .state) ≡ 160 → length (makeRoom r h .state) ≡ 160
+unfolding makeRoom
+length-room r h l = by (eqb (h .fill) r)
+  where
+    by : (b : Bool) → length (pick b (held (finish (h .state) r 1) 0) h .state) ≡ 160
+    by true = length-permuted 6 _
+    by false = l
+
+pub length-fed-state : (r : ℕ) (m : Bytes) (h : Held) → length (h .state) ≡ 160 → length (fed r h m .state) ≡ 160
+length-fed-state r [] h l = l
+length-fed-state r (x ∷ m) h l = length-fed-state r m (step r h x) (simp length-set (length-room r h l))
 
 module _ (r : ℕ) (hr : 0 < r) where
   -- ---- a block that is not full takes a byte as it is

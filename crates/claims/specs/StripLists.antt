@@ -1,13 +1,20 @@
--- Lists of calls on one message (01, "Afterwards"): a start, then strips and ends in any order, refused ones among them. Each call is given the state that the call before returned.
+-- Lists of calls on one message (01, "Afterwards"): a start, then strips and ends in any order, refused ones among them.
+-- `StripLists`: each call is given the state that the call before returned.
 --   agrees    numbers and counts equal those of the plain message, which is worked out from the calls' arguments alone
 --   outputs   every output, whole: as it was where its call was turned down, else with its part of the sealed message at the front
 --   bytes     those parts, joined, are the sealed message up to here, and the whole of it after an accepted end
 --   any-cut   for every list of strips whose joining is the message, each call is accepted and the bytes equal whole sealing
+-- `StripCallLists`: lists of the C calls are such lists. Each call is lent the same slice for the state, as the call before left it; what it held before the start does not matter.
+--   numbers   the numbers that the C calls return are those of the list of strips, and so, by `agrees`, those of the plain message
+--   outputs   every output, whole, likewise
+--   state     the slice has the state of the list of strips at its front, and its bytes from 169 on stay
+--   short     a slice of fewer bytes: start returns its own number, or else 5, every other call 5, and nothing is written
+-- `StatePasses` is one step of it: the state that a call leaves in the slice is the one that the next call reads.
 -- Assumes nothing.
 use mathlib.Core.Bool.{Bool, true, false}
-use mathlib.Core.List.{List, [], _∷_, _++_}
+use mathlib.Core.List.{List, [], _∷_, _++_, map}
 use mathlib.Core.Path.{_≡_}
-use Prim.Native.Nat.{ℕ, _+_, _≤_}
+use Prim.Native.Nat.{ℕ, _+_, _≤_, _<_}
 use lib.Dec.{eqb}
 use lib.ListN.{length, take, drop}
 use Rattle.bytes_le.specs.Bytes.{Bytes, putBytes}
@@ -15,9 +22,10 @@ use Rattle.icepole.specs.declared.Variant.the-variants.{Icepole128}
 use Rattle.icepole.specs.Variants.{sizes}
 use Rattle.icepole.specs.Sealing.{pick, sealed}
 use Rattle.icepole.specs.Answers.{maxLength, unless}
 use Rattle.strips.specs.declared.StripState.{StripState}
 use Rattle.strips.specs.declared.StripAnswer.{StripAnswer}
 use Rattle.strips.specs.Answers.{startAnswer, startOutput, stripAnswer, stripOutput, endAnswer, endOutput, startRefusal, stripNumber, endNumber}
+use Rattle.icepole_c.specs.Strips.{stripStateLength, stripStateBytes, stripStateIn, startCallNumber, startCallOutput, startCallState, stripCallNumber, stripCallOutput, stripCallState, endCallNumber, endCallOutput, endCallState}
 
 -- ---- the calls
 -- each has the output that is lent to it
@@ -61,6 +69,11 @@ abbrev pub outputsFrom : StripState → List Call → List Bytes
 outputsFrom s [] = []
 outputsFrom s (c ∷ cs) = outputOf s c ∷ outputsFrom (answerTo s c .state) cs
 
+-- the state after the calls
+abbrev pub stateFrom : StripState → List Call → StripState
+stateFrom s [] = s
+stateFrom s (c ∷ cs) = stateFrom (answerTo s c .state) cs
+
 -- the fronts of the outputs, joined: as many bytes of each as its call says it wrote
 abbrev pub writtenFrom : StripState → List Call → Bytes
 writtenFrom s [] = []
@@ -76,6 +89,9 @@ module _ (l : StripList) where
 
   unfoldable pub runOutputs : List Bytes
   runOutputs = startOutput (l .key) (l .nonce) (l .secret) (l .associated) (l .out) ∷ outputsFrom (startTo .state) (l .calls)
+
+  unfoldable pub runState : StripState
+  runState = stateFrom (startTo .state) (l .calls)
 
   unfoldable pub runWritten : Bytes
   runWritten = take (startTo .count) (startOutput (l .key) (l .nonce) (l .secret) (l .associated) (l .out)) ++ writtenFrom (startTo .state) (l .calls)
@@ -168,7 +184,7 @@ abbrev pub AllDone : List Told → Type 0
 AllDone [] = Unit {0}
 AllDone (t ∷ ts) = (t .number ≡ 0) × AllDone ts
 
--- ---- the theorem
+-- ---- the theorem of lists of strips
 pub record StripLists : Type 0 where
   pub agrees : (l : StripList) → runTold l ≡ plainTold l
   pub outputs : (l : StripList) → runOutputs l ≡ plainOutputs l
@@ -179,3 +195,58 @@ pub record StripLists : Type 0 where
       → length (joined xs) ≤ maxLength → 16 ≤ length end
       → let l : StripList = record { key = key; nonce = nonce; secret = secret; associated = associated; out = out; calls = cut xs end } in
       AllDone (runTold l) × (runWritten l ≡ sealing l (joined xs))
+
+-- ---- the C calls run: what a call returns and leaves is what its contract states. st is the slice that is lent for the state
+unfoldable pub numberC : Bytes → Call → ℕ
+numberC st (stripOf m o) = stripCallNumber st m o
+numberC st (endOf o) = endCallNumber st o
+
+unfoldable pub outputC : Bytes → Call → Bytes
+outputC st (stripOf m o) = stripCallOutput st m o
+outputC st (endOf o) = endCallOutput st o
+
+-- the slice after the call
+unfoldable pub sliceC : Bytes → Call → Bytes
+sliceC st (stripOf m o) = stripCallState st m o
+sliceC st (endOf o) = endCallState st o
+
+abbrev pub numbersFromC : Bytes → List Call → List ℕ
+numbersFromC st [] = []
+numbersFromC st (c ∷ cs) = numberC st c ∷ numbersFromC (sliceC st c) cs
+
+abbrev pub outputsFromC : Bytes → List Call → List Bytes
+outputsFromC st [] = []
+outputsFromC st (c ∷ cs) = outputC st c ∷ outputsFromC (sliceC st c) cs
+
+abbrev pub sliceFromC : Bytes → List Call → Bytes
+sliceFromC st [] = st
+sliceFromC st (c ∷ cs) = sliceFromC (sliceC st c) cs
+
+module _ (l : StripList) (st : Bytes) where
+  abbrev pub startSliceC : Bytes
+  startSliceC = startCallState (l .key) (l .nonce) (l .secret) (l .associated) (l .out) st
+
+  -- of the whole list, start's first
+  unfoldable pub runNumbersC : List ℕ
+  runNumbersC = startCallNumber (l .key) (l .nonce) (l .secret) (l .associated) (l .out) st ∷ numbersFromC startSliceC (l .calls)
+
+  unfoldable pub runOutputsC : List Bytes
+  runOutputsC = startCallOutput (l .key) (l .nonce) (l .secret) (l .associated) (l .out) st ∷ outputsFromC startSliceC (l .calls)
+
+  unfoldable pub runSliceC : Bytes
+  runSliceC = sliceFromC startSliceC (l .calls)
+
+-- ---- the theorems of the C calls
+abbrev pub StatePasses : Type 0
+StatePasses = (b : Bytes) (s : StripState) → stripStateLength ≤ length b → length (s .bytes) ≡ 160 → s .count < 18446744073709551616
+    → stripStateIn (putBytes b 0 (stripStateBytes s)) ≡ s
+
+pub record StripCallLists : Type 0 where
+  pub numbers : (l : StripList) (st : Bytes) → stripStateLength ≤ length st → runNumbersC l st ≡ map (λ (t : Told). t .number) (runTold l)
+  pub outputs : (l : StripList) (st : Bytes) → stripStateLength ≤ length st → runOutputsC l st ≡ runOutputs l
+  pub state : (l : StripList) (st : Bytes) → stripStateLength ≤ length st
+      → runSliceC l st ≡ stripStateBytes (runState l) ++ drop stripStateLength st
+  pub short : (l : StripList) (st : Bytes) → length st < stripStateLength
+      → (runNumbersC l st ≡ pick (eqb (startNumberOf l) 0) 5 (startNumberOf l) ∷ map (λ (c : Call). 5) (l .calls))
+      × (runOutputsC l st ≡ l .out ∷ map lentTo (l .calls))
+      × (runSliceC l st ≡ st)

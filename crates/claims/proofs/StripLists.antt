@@ -18,37 +18,37 @@ use Rattle.icepole.specs.Sealing.{_⊕_, keyed, pick, ready, sealed}
 use Rattle.icepole.specs.Answers.{maxLength, unless}
 use Rattle.icepole.proofs.Opening.{length-keyed, length-ready}
 use Rattle.icepole.proofs.Xor.{length-xor}
 use Rattle.strips.specs.declared.StripState.{StripState}
 use Rattle.strips.specs.declared.StripAnswer.{StripAnswer}
 use Rattle.strips.specs.Machine.{Held, held, ended, fed, fedBytes, fillOf, finish}
 use Rattle.strips.specs.Answers.{afterEnd, afterStrip, answered, endAnswer, endNumber, endOutput, endRefusal, heldIn, notStarted, startAnswer, startOutput, startRefusal, started, stripAnswer, stripNumber, stripOutput, stripRefusal}
-use Rattle.strips.specs.Lists.{AllDone, Call, StripList, Piece, PlainMessage, StripLists, Told, accepted, afterCall, afterCalls, answerTo, countOf, cut, endOf, joined, lentTo, numberOf, outputOf, outputsFrom, partOf, plainAnswer, plainFrom, plainOf, plainOutputs, plainOutputsFrom, plainStart, plainTold, runOutputs, runTold, runWritten, sealing, startNumberOf, startTo, stripOf, toldBy, toldFrom, writtenFrom}
+use Rattle.claims.specs.StripLists.{AllDone, Call, StripList, Piece, PlainMessage, StripLists, Told, accepted, afterCall, afterCalls, answerTo, countOf, cut, endOf, joined, lentTo, numberOf, outputOf, outputsFrom, partOf, plainAnswer, plainFrom, plainOf, plainOutputs, plainOutputsFrom, plainStart, plainTold, runOutputs, runTold, runWritten, sealing, startNumberOf, startTo, stripOf, toldBy, toldFrom, writtenFrom}
 use Rattle.strips.proofs.Machine.{bytes-join, fed-fill, fed-join, length-fed, whole-bytes, whole-tag}
 use Rattle.strips.proofs.Numbers.{StartFits, end-0, end-14, end-open, over, start-accepted, start-fits, strip-0, strip-14, strip-fits, takes}
 
 -- where the number is not 0
-turned : {A : Type 0} (n : ℕ) (a b : A) → pick (eqb (suc n) 0) a b ≡ b
+pub turned : {A : Type 0} (n : ℕ) (a b : A) → pick (eqb (suc n) 0) a b ≡ b
 turned n a b = rw (ne-eqb (suc n) 0 (λ z. omega arith)) refl
 
 -- ---- one call, whatever it is
-abbrev afterState : StripState → Call → StripState
+abbrev pub afterState : StripState → Call → StripState
 afterState s (stripOf m o) = afterStrip s m o
 afterState s (endOf o) = afterEnd s o
 
-abbrev bytesBy : StripState → Call → Bytes
+abbrev pub bytesBy : StripState → Call → Bytes
 bytesBy s (stripOf m o) = fedBytes 128 (heldIn s) m
 bytesBy s (endOf o) = ended (heldIn s)
 
-unfoldable numberBy : StripState → Call → ℕ
+unfoldable pub numberBy : StripState → Call → ℕ
 numberBy s (stripOf m o) = stripNumber (s .finished) (s .count) (length m) (length o)
 numberBy s (endOf o) = endNumber (s .finished) (s .count) (length o)
 
-answer-is : (s : StripState) (c : Call) → answerTo s c ≡ answered (numberBy s c) s (afterState s c) (countOf c)
+pub answer-is : (s : StripState) (c : Call) → answerTo s c ≡ answered (numberBy s c) s (afterState s c) (countOf c)
 unfolding answerTo stripAnswer stripRefusal endAnswer endRefusal numberBy countOf
 answer-is s (stripOf m o) = refl
 answer-is s (endOf o) = refl
 
-output-is : (s : StripState) (c : Call) → outputOf s c ≡ unless (numberBy s c) (lentTo c) (putBytes (lentTo c) 0 (bytesBy s c))
+pub output-is : (s : StripState) (c : Call) → outputOf s c ≡ unless (numberBy s c) (lentTo c) (putBytes (lentTo c) 0 (bytesBy s c))
 unfolding outputOf stripOutput stripRefusal endOutput endRefusal numberBy
 output-is s (stripOf m o) = refl
 output-is s (endOf o) = refl
@@ -260,13 +260,13 @@ module _ (u : Bytes) where
 
 -- ---- the whole list
 module _ (l : StripList) where
-  abbrev u : Bytes
+  abbrev pub u : Bytes
   u = ready 128 (keyed (l .key) (l .nonce)) (l .secret) (l .associated)
 
   abbrev sealedSecret : Bytes
   sealedSecret = keyed (l .key) (l .nonce) ⊕ l .secret
 
-  start-is : (n : ℕ) → startNumberOf l ≡ n → startTo l ≡ answered n notStarted (started (l .key) (l .nonce) (l .secret) (l .associated) (l .out)) 16
+  pub start-is : (n : ℕ) → startNumberOf l ≡ n → startTo l ≡ answered n notStarted (started (l .key) (l .nonce) (l .secret) (l .associated) (l .out)) 16
   unfolding startAnswer
   start-is n e = ap (λ (n : ℕ). answered n notStarted (started (l .key) (l .nonce) (l .secret) (l .associated) (l .out)) 16) e
 
@@ -292,7 +292,7 @@ module _ (l : StripList) where
       (told-from u (l .calls) (startTo l .state) (plainStart l) rel-start)
 
   -- ---- what was written, and the sealed message
-  hu : length u ≡ 160
+  pub hu : length u ≡ 160
   hu = length-ready (sizes Icepole128) (omega arith) (omega arith) (omega arith) (keyed (l .key) (l .nonce)) (l .secret) (l .associated)
 
   sealing-is : (m : Bytes) → sealing l m ≡ sealedSecret ++ (E u m ++ T u m)
@@ -389,6 +389,9 @@ module _ (l : StripList) where
           (outputs-closed u (l .calls) (startTo l .state) (plainStart l) rel-start (sealing l) f)
 
 -- ---- a message cut into strips: each is accepted, and so is the end
+length-joined : (x : Piece) (xs : List Piece) → length (joined (x ∷ xs)) ≡ length (x .message) + length (joined xs)
+length-joined x xs = simp length-append (omega arith)
+
 module _ (end : Bytes) (he : 16 ≤ length end) where
   strip-number : (x : Piece) (p : Bytes) → length p + length (x .message) ≤ maxLength
       → numberOf (record { message = p; finished = false }) (stripOf (x .message) (x .out)) ≡ 0
@@ -417,7 +420,7 @@ module _ (end : Bytes) (he : 16 ≤ length end) where
       let hp : length p ≤ maxLength = omega arith in
       ((end-number p hp, tt), after-end p hp ∙ ap (λ (m : Bytes). record { message = m; finished = true }) (sym (append-nil p)))
   cut-from (x ∷ xs) p h =
-      let l : length (x .message ++ joined xs) ≡ length (x .message) + length (joined xs) = length-append (x .message) (joined xs) in
+      let l : length (joined (x ∷ xs)) ≡ length (x .message) + length (joined xs) = length-joined x xs in
       let hx : length p + length (x .message) ≤ maxLength = omega arith in
       let e = after-strip x p hx in
       let i = cut-from xs (p ++ x .message) (rw length-append (omega arith)) in (
