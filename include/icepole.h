@@ -104,13 +104,13 @@ uint32_t icepole256a_open(const uint8_t *key, size_t key_len, const uint8_t *non
  * icepole128_seal writes for the strips joined; icepole128_open opens it.
  *
  * start writes the sealed secret number, 16 bytes, to the front of out; a strip as many bytes as it has, of any length and also none;
- * end the 16-byte tag. Later bytes stay.
+ * end the 16-byte tag. Later bytes of out and of state stay.
  *
  * state holds what passes from call to call, ICEPOLE128_STRIP_STATE_BYTES bytes: the cipher's state (160), the count of message bytes
  * (8), and 0, or 1 once it is finished. It is as secret as the key, and a copy of it must never be continued a second time with other
  * bytes: both would be sealed with the same key stream. A start that is refused leaves a finished state, otherwise zero
  * (nothing where state is too short); refused strips and ends leave state and out as they were. After end the state is finished, and
- * each further call is refused with 14.
+ * each further strip or end is refused with 14.
  */
 uint32_t icepole128_start(const uint8_t *key, size_t key_len, const uint8_t *nonce, size_t nonce_len,
                           const uint8_t *secret, size_t secret_len, const uint8_t *ad1, size_t ad1_len,

@@ -318,11 +318,11 @@ pub extern "C" fn icepole128_end(state: &mut [u8], out: &mut [u8]) -> u32
     if state.len() < STRIP_STATE_LENGTH {
         return OUTPUT_TOO_SHORT;
     }
-    let r = strips::end(strip_state_in(state), out);
-    if r.refusal != 0 {
-        return r.refusal;
+    let ended = strips::end(strip_state_in(state), out);
+    if ended.refusal != 0 {
+        return ended.refusal;
     }
-    let next = r.state;
-    put_strip_state(next, state);
+    let last = ended.state;
+    put_strip_state(last, state);
     0
 }

@@ -255,6 +255,7 @@ pub fn end(s: StripState, out: &mut [u8]) -> StripAnswer
     let v = s.bytes;
     let w = state_bytes::to_bytes(icepole::finish_bytes(v, fill_of(s.count), 0));
     bytes_le::put_bytes(out, 0, &w[0..16]);
+    let finished = true;
     StripAnswer {
         refusal: 0,
         mark: 0,
@@ -262,7 +263,7 @@ pub fn end(s: StripState, out: &mut [u8]) -> StripAnswer
         state: StripState {
             bytes: v,
             count: s.count,
-            finished: true,
+            finished,
         },
     }
 }
