@@ -28,7 +28,8 @@ returns : tie.Need-returns
 returns c =
     let p = c .before .before in
     let a = p .before .before .before .before .before .before .before .before .args in
-    short-call (a .v) (a .key .now) (a .nonce .now) (a .first .now) (a .second .now) (a .sealed .now) (a .out .now) (a .info .now) _ (rw (p .sizes-of .ensures) at (c .before .if1 .taken)) (c .open-number .ensures)
+    let h = rw (p .sizes-of .ensures) at (c .before .if1 .taken) in
+    short-call (a .v) (a .key .now) (a .nonce .now) (a .first .now) (a .second .now) (a .sealed .now) (a .out .now) (a .info .now) _ (omega (arith, h)) (c .open-number .ensures)
 
 returns-2 : tie.Need-returns-2
 returns-2 c =
