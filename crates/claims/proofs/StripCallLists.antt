@@ -5,7 +5,7 @@ use mathlib.Core.Bool.{Bool, true, false, not}
 use mathlib.Core.List.{List, [], _∷_, _++_, append-assoc, map}
 use Prim.Native.Nat.{ℕ, zero, suc, _+_, _%_, _≤_, _<_}
 use native.Mathlib.Omega.{arith}
-use borrow.Author.Tests.{ne-eqb, le-ltb, lt-ltb}
+use borrow.Author.Tests.{le-ltb}
 use lib.Dec.{eqb}
 use lib.ListN.{length, take, drop, getD, length-append}
 use lib.Seq.{take-at, drop-at, getD-append-seam}
@@ -15,7 +15,7 @@ use Rattle.icepole.specs.Sealing.{pick}
 use Rattle.icepole.specs.Answers.{maxLength, unless}
 use Rattle.strips.specs.declared.StripState.{StripState}
 use Rattle.strips.specs.declared.StripAnswer.{StripAnswer}
-use Rattle.strips.specs.Answers.{afterEnd, afterStrip, answered, endAnswer, endOutput, endRefusal, heldIn, notStarted, startAnswer, startOutput, startRefusal, started, stripAnswer, stripOutput, stripRefusal}
+use Rattle.strips.specs.Answers.{endAnswer, endOutput, endRefusal, heldIn, notStarted, startAnswer, startOutput, started, stripAnswer, stripOutput, stripRefusal}
 use Rattle.strips.proofs.Machine.{length-fed-state}
 use Rattle.strips.proofs.Numbers.{strip-fits}
 use Rattle.icepole_c.specs.Strips.{flag, stripStateBytes, stripStateIn, startCallNumber, startCallOutput, startCallState, stripCallNumber, stripCallOutput, stripCallState, endCallNumber, endCallOutput, endCallState}

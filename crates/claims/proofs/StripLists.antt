@@ -35,7 +35,7 @@ abbrev pub afterState : StripState → Call → StripState
 afterState s (stripOf m o) = afterStrip s m o
 afterState s (endOf o) = afterEnd s o
 
-abbrev pub bytesBy : StripState → Call → Bytes
+abbrev bytesBy : StripState → Call → Bytes
 bytesBy s (stripOf m o) = fedBytes 128 (heldIn s) m
 bytesBy s (endOf o) = ended (heldIn s)
 
@@ -48,7 +48,7 @@ unfolding answerTo stripAnswer stripRefusal endAnswer endRefusal numberBy countO
 answer-is s (stripOf m o) = refl
 answer-is s (endOf o) = refl
 
-pub output-is : (s : StripState) (c : Call) → outputOf s c ≡ unless (numberBy s c) (lentTo c) (putBytes (lentTo c) 0 (bytesBy s c))
+output-is : (s : StripState) (c : Call) → outputOf s c ≡ unless (numberBy s c) (lentTo c) (putBytes (lentTo c) 0 (bytesBy s c))
 unfolding outputOf stripOutput stripRefusal endOutput endRefusal numberBy
 output-is s (stripOf m o) = refl
 output-is s (endOf o) = refl
@@ -260,7 +260,7 @@ module _ (u : Bytes) where
 
 -- ---- the whole list
 module _ (l : StripList) where
-  abbrev pub u : Bytes
+  abbrev u : Bytes
   u = ready 128 (keyed (l .key) (l .nonce)) (l .secret) (l .associated)
 
   abbrev sealedSecret : Bytes
