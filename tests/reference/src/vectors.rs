@@ -1,9 +1,10 @@
-//! Test vectors of the permutation, as text.
+//! Test vectors of the permutation and of sealing, as text.
 
 use std::fmt::Write;
 
 use crate::permutation::{bits, State, STARTING_WORDS, ZERO_STATE};
 use crate::random::XorShift64;
+use crate::sealing::{self, Variant};
 
 /// How many states the vectors start from.
 pub const VECTOR_STATES: u64 = 14;
@@ -53,6 +54,44 @@ pub fn permutation_vectors() -> String {
             for y in 0..5 {
                 let [a, b, c, d] = [s[0][y], s[1][y], s[2][y], s[3][y]];
                 writeln!(text, "{a:016x} {b:016x} {c:016x} {d:016x}").unwrap();
+            }
+        }
+    }
+    text
+}
+
+/// The lengths of message and associated data: around one block and two, of
+/// 120 and of 128 bytes.
+pub const EDGES: [usize; 10] = [0, 1, 119, 120, 121, 127, 128, 129, 240, 256];
+
+/// `count` bytes, from byte `from` on, of the run whose byte i is
+/// (31 i + i div 7) mod 256.
+fn cut_from_run(from: usize, count: usize) -> Vec<u8> {
+    let byte = |i: usize| ((31 * i + i / 7) % 256) as u8;
+    (from..from + count).map(byte).collect()
+}
+
+/// The text of the sealed messages of each variant, of every edge length of
+/// message and of associated data, by the bit-level version. A line has the
+/// lengths, those of associated data as two parts, and the sealed message.
+pub fn sealing_vectors() -> String {
+    let mut text = String::new();
+    for (variant, name) in Variant::ALL.into_iter().zip(["128", "128a", "256a"]) {
+        let sizes = variant.sizes();
+        let key = cut_from_run(0, sizes.key);
+        let nonce = cut_from_run(32, sizes.nonce);
+        let secret = cut_from_run(48, sizes.secret);
+        for (i, m) in EDGES.into_iter().enumerate() {
+            for (j, a) in EDGES.into_iter().enumerate() {
+                let ad = cut_from_run(64, a);
+                let message = cut_from_run(320, m);
+                let first = [0, a, a / 2, a / 3][(i + j) % 4];
+                let second = a - first;
+                write!(text, "{name} message {m} associated {first} + {second}: ").unwrap();
+                for byte in sealing::bits::seal(variant, &key, &nonce, &secret, &ad, &message) {
+                    write!(text, "{byte:02x}").unwrap();
+                }
+                text.push_str(" opened\n");
             }
         }
     }

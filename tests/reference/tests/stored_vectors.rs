@@ -4,13 +4,12 @@ use std::fs;
 use std::path::Path;
 
 use reference::permutation::{words, State, ZERO_STATE};
-use reference::vectors::{permutation_vectors, vector_state};
+use reference::sealing::{open, Variant};
+use reference::vectors::{permutation_vectors, sealing_vectors, vector_state};
 
-/// The file that the proved program's output is compared with.
-const STORED: &str = concat!(
-    env!("CARGO_MANIFEST_DIR"),
-    "/../../crates/permutation_vectors/stdout"
-);
+/// The folder of the crates, among them the proved programs whose output is
+/// compared with a stored file.
+const CRATES: &str = concat!(env!("CARGO_MANIFEST_DIR"), "/../../crates");
 
 /// What differs first between two texts, or nothing when they are equal.
 fn first_difference(stored: &str, made: &str) -> Option<String> {
@@ -29,14 +28,24 @@ fn first_difference(stored: &str, made: &str) -> Option<String> {
     ))
 }
 
-#[test]
-fn vectors_equal_the_stored_file() {
-    let path = Path::new(STORED);
-    let stored = fs::read_to_string(path)
+/// A program's stored output is the text made anew.
+fn check_stored(program: &str, made: &str) {
+    let path = Path::new(CRATES).join(program).join("stdout");
+    let stored = fs::read_to_string(&path)
         .unwrap_or_else(|error| panic!("cannot read {}: {error}", path.display()));
-    if let Some(difference) = first_difference(&stored, &permutation_vectors()) {
+    if let Some(difference) = first_difference(&stored, made) {
         panic!("{} differs, {difference}", path.display());
     }
+}
+
+#[test]
+fn vectors_equal_the_stored_file() {
+    check_stored("permutation_vectors", &permutation_vectors());
+}
+
+#[test]
+fn sealing_vectors_equal_the_stored_file() {
+    check_stored("sealing_vectors", &sealing_vectors());
 }
 
 #[test]
@@ -99,4 +108,54 @@ fn vector_states_are_as_described() {
     v ^= v >> 7;
     v ^= v << 17;
     assert_eq!(vector_state(6)[1][0], v);
+}
+
+fn bytes_of_hex(text: &str) -> Vec<u8> {
+    let digits = |i: usize| u8::from_str_radix(&text[2 * i..2 * i + 2], 16).unwrap();
+    (0..text.len() / 2).map(digits).collect()
+}
+
+// The text comes from the bit-level version; here the word-level one opens each
+// line. The run of bytes is made step by step: 31 more each time, and every
+// seventh time one more.
+#[test]
+fn sealing_vectors_are_opened() {
+    let mut run: Vec<u8> = vec![0];
+    for i in 1..576 {
+        let last = run[i - 1];
+        run.push(last.wrapping_add(if i % 7 == 0 { 32 } else { 31 }));
+    }
+    let text = sealing_vectors();
+    assert_eq!(text.lines().count(), 300);
+    let mut parts = [0; 3];
+    for line in text.lines() {
+        let words: Vec<&str> = line.split(' ').collect();
+        let [name, "message", m, "associated", first, "+", second, sealed, "opened"] = words[..]
+        else {
+            panic!("{line:?}");
+        };
+        let number = ["128", "128a", "256a"].iter().position(|&n| n == name);
+        let variant = Variant::ALL[number.unwrap()];
+        let m: usize = m.parse().unwrap();
+        let first: usize = first.parse().unwrap();
+        let second: usize = second.strip_suffix(':').unwrap().parse().unwrap();
+        parts[usize::from(first > 0) + usize::from(second > 0)] += 1;
+        let sizes = variant.sizes();
+        let ad = &run[64..64 + first + second];
+        let (message, secret) = open(
+            variant,
+            &run[..sizes.key],
+            &run[32..32 + sizes.nonce],
+            &ad[..first],
+            &ad[first..],
+            &bytes_of_hex(sealed),
+            m,
+            variant.info_bytes(),
+        )
+        .unwrap();
+        assert_eq!(message, run[320..320 + m], "{line:?}");
+        assert_eq!(secret, run[48..48 + sizes.secret], "{line:?}");
+    }
+    // No associated data, one part empty, both parts with bytes.
+    assert!(parts.iter().all(|&count| count > 20), "{parts:?}");
 }

@@ -1,0 +1,5 @@
+//! Prints the test vectors of sealing.
+
+fn main() {
+    print!("{}", reference::vectors::sealing_vectors());
+}
