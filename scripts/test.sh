@@ -42,6 +42,14 @@ prove() {
     fi
 }
 
+# The look at the first error of every must-fail edit, by short logs of both kinds.
+first_errors_tried() {
+    sh scripts/first_errors.sh tests/first_errors/fact/*.log || return 1
+    for log in tests/first_errors/nothing/*.log; do
+        ! sh scripts/first_errors.sh "$log" >/dev/null || { echo "$log passes"; return 1; }
+    done
+}
+
 # The sums over cargo's lines 'test result: ok. N passed; M failed; ..', of the workspace in a folder.
 rust_tests() {
     log=build/cargo-$(basename "$1").log
@@ -158,6 +166,8 @@ mkdir -p build
 step "every crate is listed" crates_listed
 step "rt fmt --check" rt fmt --check
 prove
+step "must-fail edits are refused on a fact" sh scripts/first_errors.sh
+step "and those that are not are seen" first_errors_tried
 step "make lib" lib
 step "the C program of sealing" c_program tests/c_calls/c/roundtrip.c libicepole_c.a
 step "the C program of bursts" c_program tests/burst_calls/c/record_and_read.c libburst_c.a
