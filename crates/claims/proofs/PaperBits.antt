@@ -9,16 +9,17 @@ use native.Mathlib.Nat.{zero-div, not-suc-le-zero, le-of-suc-le-suc, eq-zero-or-
 use native.Mathlib.Omega.{arith}
 use lib.Bits.{bitXor, xor-zero-r}
 use lib.Dec.{eqb}
-use lib.ListN.{length, getD, drop, List·getD-append, length-append, List·getD-eq-default}
+use lib.ListN.{length, getD, take, drop, List·getD-append, length-append, List·getD-eq-default}
 use lib.Pow.{shr-shr}
 use lib.Seq.{getD-take, getD-drop, getD-append-seam}
 use Rattle.bits.specs.Bits.{bit, _⊕_ as _⊻_}
-use Rattle.bytes_le.specs.Bytes.{Bytes, le}
+use Rattle.bytes_le.specs.Bytes.{Bytes, AllBytes, le, unle}
 use Rattle.icepole.specs.Sealing.{_⊕_, pad, xorWith}
 use Rattle.permutation.specs.State.{at, state, tabulate}
-use Rattle.state_bytes.specs.StateBytes.{bytesOf, wordOf}
+use Rattle.state_bytes.specs.StateBytes.{bytesOf, stateOf, wordOf}
 use Rattle.bits.proofs.Cases.{two}
 use Rattle.bits.proofs.Laws.{bit-low, bit-shr, bit-xor}
+use Rattle.bytes_le.proofs.All.{all-take, all-drop}
 use Rattle.state_bytes.proofs.Words.{Shape, bytes-word}
 use Rattle.claims.specs.PaperBits.{PaperBits, bitOf}
 
@@ -35,6 +36,26 @@ byte-of (suc n) x (suc j) h =
 bit-of : (n x j k : ℕ) → j < n → k < 8 → bit (getD (le n x) j 0) k ≡ bit x (8 * j + k)
 bit-of n x j k h l =
     ap (λ (y : ℕ). bit y k) (byte-of n x j h) ∙ bit-low (x / 2 ^ (8 * j)) 8 k l ∙ bit-shr x (8 * j) k
+
+bit-none : (z : ℕ) → bit 0 z ≡ false
+unfolding bit
+bit-none z = ap (λ (n : ℕ). eqb (n % 2) 1) (zero-div (2 ^ z))
+
+bit-in : (b : Bytes) → AllBytes b → (j k : ℕ) → k < 8 → bit (unle b) (8 * j + k) ≡ bit (getD b j 0) k
+bit-in [] h j k l = bit-none (8 * j + k) ∙ sym (bit-none k)
+bit-in (x ∷ b) h zero k l =
+    let ek : 8 * zero + k ≡ k = omega arith in
+    let hx : x < 256 = h .0 in
+    let ex : (x + 256 * unle b) % 2 ^ 8 ≡ x = omega arith in
+    ap (bit (x + 256 * unle b)) ek ∙ sym (bit-low (x + 256 * unle b) 8 k l) ∙ ap (λ (y : ℕ). bit y k) ex
+bit-in (x ∷ b) h (suc j) k l =
+    let ej : 8 * suc j + k ≡ 8 + (8 * j + k) = omega arith in
+    let hx : x < 256 = h .0 in
+    let ex : (x + 256 * unle b) / 2 ^ 8 ≡ unle b = omega arith in
+    ap (bit (x + 256 * unle b)) ej
+    ∙ sym (bit-shr (x + 256 * unle b) 8 (8 * j + k))
+    ∙ ap (λ (y : ℕ). bit y (8 * j + k)) ex
+    ∙ bit-in b (h .1) j k l
 
 -- ---- the state
 formed : (S : ℕ → ℕ → ℕ) → Shape (state S)
@@ -74,11 +95,24 @@ paper-bit S x y z hx hy hz =
     ∙ ap (λ (l : List ℕ). bit (getD l y 0) z) (getD-tabulate 4 (λ i. tabulate 5 (S i)) x [] hx)
     ∙ ap (λ (w : ℕ). bit w z) (getD-tabulate 5 (S x) y 0 hy)
 
--- ---- the padding
-bit-none : (z : ℕ) → bit 0 z ≡ false
-unfolding bit
-bit-none z = ap (λ (n : ℕ). eqb (n % 2) 1) (zero-div (2 ^ z))
+-- and back
+bit-back : (v : Bytes) → AllBytes v → (x y z : ℕ) → x < 4 → y < 5 → z < 64 → bit (at (stateOf v) x y) z ≡ bitOf v (64 * (x + 4 * y) + z)
+unfolding stateOf
+bit-back v h x y z hx hy hz =
+    let w = x + 4 * y in
+    let word : ℕ → ℕ → ℕ = λ x y. unle (take 8 (drop (8 * (x + 4 * y)) v)) in
+    let t = take 8 (drop (8 * w) v) in
+    let ei : 8 * w + z / 8 ≡ (64 * w + z) / 8 = omega arith in
+    let ek : z % 8 ≡ (64 * w + z) % 8 = omega arith in
+    let ez : z ≡ 8 * (z / 8) + z % 8 = omega arith in
+    ap (λ (l : List ℕ). bit (getD l y 0) z) (getD-tabulate 4 (λ i. tabulate 5 (word i)) x [] hx)
+    ∙ ap (λ (n : ℕ). bit n z) (getD-tabulate 5 (word x) y 0 hy)
+    ∙ ap (bit (unle t)) ez
+    ∙ bit-in t (all-take 8 (drop (8 * w) v) (all-drop (8 * w) v h)) (z / 8) (z % 8) (omega arith)
+    ∙ ap (λ (n : ℕ). bit n (z % 8)) (getD-take 8 (drop (8 * w) v) (z / 8) 0 (omega arith) ∙ getD-drop (8 * w) v (z / 8) 0)
+    ∙ ap₂ (λ (i k : ℕ). bit (getD v i 0) k) ei ek
 
+-- ---- the padding
 bit-high : (n i : ℕ) → n < 4 → bit n (2 + i) ≡ false
 bit-high n i h =
     let e : n / 2 ^ 2 ≡ 0 = omega arith in
@@ -143,6 +177,7 @@ pub paper-bits : PaperBits
 paper-bits =
     record {
       state-bits = paper-bit;
+      bits-state = bit-back;
       pad-block = front;
       pad-frame = frame-bit;
       pad-one = one-bit;

@@ -7,9 +7,9 @@ use Prim.Native.Nat.{ℕ, _+_, _*_, _/_, _%_, _≤_, _<_}
 use lib.Dec.{eqb}
 use lib.ListN.{length, getD}
 use Rattle.bits.specs.Bits.{bit, _⊕_ as _⊻_}
-use Rattle.bytes_le.specs.Bytes.{Bytes}
-use Rattle.permutation.specs.State.{state}
-use Rattle.state_bytes.specs.StateBytes.{bytesOf}
+use Rattle.bytes_le.specs.Bytes.{Bytes, AllBytes}
+use Rattle.permutation.specs.State.{at, state}
+use Rattle.state_bytes.specs.StateBytes.{bytesOf, stateOf}
 use Rattle.icepole.specs.Sealing.{_⊕_, xorWith, pad}
 
 -- bit i of a run of bytes; past its end there are zeros
@@ -19,6 +19,8 @@ bitOf b i = bit (getD b (i / 8) 0) (i % 8)
 pub record PaperBits : Type 0 where
   -- v[64(x + 4y) + z] = S[x][y][z] (003, 2.3)
   pub state-bits : (S : ℕ → ℕ → ℕ) (x y z : ℕ) → x < 4 → y < 5 → z < 64 → bitOf (bytesOf (state S)) (64 * (x + 4 * y) + z) ≡ bit (S x y) z
+  -- and back, of the state whose bytes are v
+  pub bits-state : (v : Bytes) → AllBytes v → (x y z : ℕ) → x < 4 → y < 5 → z < 64 → bit (at (stateOf v) x y) z ≡ bitOf v (64 * (x + 4 * y) + z)
   -- a block of L bytes, L = length b, with the frame bit f
   pub pad-block : (b : Bytes) (f i : ℕ) → i < 8 * length b → bitOf (pad b f) i ≡ bitOf b i
   pub pad-frame : (b : Bytes) (f : ℕ) → f < 2 → bitOf (pad b f) (8 * length b) ≡ eqb f 1
