@@ -1,4 +1,4 @@
--- The marked values of document 01, its example of burst 7 with what the lister prints for it, and its refusals by example (but 13, which takes an accepted file), as one table: what the definitions give, and what the document says. `proofs/Marked.antt` shows that the two sides agree.
+-- The marked values of document 01, its example of burst 7 with what the lister prints for it, and its refusals by example and the order of every call's (but 13, which takes an accepted file), as one table: what the definitions give, and what the document says. `proofs/Marked.antt` shows that the two sides agree.
 -- Assumes nothing.
 use mathlib.Core.Path.{_≡_}
 use mathlib.Core.Bool.{true, false}
@@ -17,10 +17,10 @@ use Rattle.icepole.specs.Answers.{sealNumber, openNumber}
 use Rattle.burst.specs.Editions.{edition1}
 use Rattle.burst.specs.Parts.{nonceOf}
 use Rattle.burst.specs.Layout.{closingOffset}
-use Rattle.burst.specs.Numbers.{beginNumber, keepNumber, dropNumber}
+use Rattle.burst.specs.Numbers.{beginNumber, keepNumber, dropNumber, closeNumber}
 use Rattle.trace.specs.Plain.{pictures, Plain, byValue, inPlace, keepShot, dropShot, closeBurst, CallList, Answer, usedOf, totalOf, headerOf, indexOf, plainOf, plainAnswers}
-use Rattle.reader.specs.Reader.{checkNumber}
-use Rattle.strips.specs.Answers.{stripNumber, endNumber}
+use Rattle.reader.specs.Reader.{checkNumber, recordNumber, fetchNumber}
+use Rattle.strips.specs.Answers.{startNumber, stripNumber, endNumber}
 use Rattle.listing.specs.Text.{ascii}
 use Rattle.listing.specs.Listing.{listing}
 
@@ -104,6 +104,73 @@ stripRefusals =
     ∷ stripNumber false 67108864 1 1
     ∷ []
 
+-- ---- the orders (01, "Turned down, by example"): for each two neighbours of an order a call of which both conditions hold, and whose number is the first one's. So no two can change places
+-- 1 and 2, 2 and 3, 3 and 4, 4 and 5
+abbrev pub sealOrder : List ℕ
+sealOrder =
+    sealNumber (sizes Icepole128) 15 12 16 0 3 35
+    ∷ sealNumber (sizes Icepole128) 16 12 0 0 3 35
+    ∷ sealNumber (sizes Icepole128) 16 16 0 0 67108865 67108897
+    ∷ sealNumber (sizes Icepole128) 16 16 16 0 67108865 0
+    ∷ []
+
+-- 1 and 2, 2 and 4, 4 (of the associated data) and 6, 6 and 5 (of a further slice), 5 and 7; then a message that is too long by what its sealed message implies, with 5
+abbrev pub openOrder : List ℕ
+openOrder =
+    openNumber (sizes Icepole128) 15 12 0 35 true true
+    ∷ openNumber (sizes Icepole128) 16 12 67108865 35 true true
+    ∷ openNumber (sizes Icepole128) 16 16 67108865 31 true true
+    ∷ openNumber (sizes Icepole128) 16 16 0 31 false true
+    ∷ openNumber (sizes Icepole128) 16 16 0 35 false false
+    ∷ openNumber (sizes Icepole128) 16 16 0 67108897 false true
+    ∷ []
+
+-- 1 and 2, 2 and 3, 3 and 4, 4 and 5; then 5 alone
+abbrev pub startOrder : List ℕ
+startOrder =
+    startNumber (sizes Icepole128) 15 12 16 0 16
+    ∷ startNumber (sizes Icepole128) 16 12 0 0 16
+    ∷ startNumber (sizes Icepole128) 16 16 0 67108865 16
+    ∷ startNumber (sizes Icepole128) 16 16 16 67108865 15
+    ∷ startNumber (sizes Icepole128) 16 16 16 0 15
+    ∷ []
+
+-- 14 and 4, 4 (of the sum) and 5, 5 alone
+abbrev pub stripOrder : List ℕ
+stripOrder = stripNumber true 3 67108865 67108865 ∷ stripNumber false 3 67108862 0 ∷ stripNumber false 3 3 2 ∷ []
+
+-- 14 and 5, 5 alone
+abbrev pub endOrder : List ℕ
+endOrder = endNumber true 3 15 ∷ endNumber false 3 15 ∷ []
+
+-- 1 and 3, 3 and 11
+abbrev pub beginOrder : List ℕ
+beginOrder = beginNumber edition1 15 15 64 ∷ beginNumber edition1 16 15 63 ∷ []
+
+-- 8 and 3, 3 and 9, 9 and 10, 10 and 11
+abbrev pub keepOrder : List ℕ
+keepOrder =
+    keepNumber edition1 false 0 0 32 0 3 111
+    ∷ keepNumber edition1 true 60 0 32 0 3 111
+    ∷ keepNumber edition1 true 60 0 32 16 0 111
+    ∷ keepNumber edition1 true 0 0 32 16 0 107
+    ∷ []
+
+-- drop's 8 and 9; close's 8 and 11, 11 alone
+abbrev pub dropCloseOrder : List ℕ
+dropCloseOrder = dropNumber edition1 false 60 ∷ closeNumber false 0 32 63 ∷ closeNumber true 0 32 63 ∷ []
+
+-- check's 1 and 12. Its 12 and 7: the seals of this file are zeros, which were 7 if it came first. Fetch's and record's check and 13, with fetch's 5: a place that is not below kept, and no output. 13 and 5 hold together only of an accepted file, which is not worked out here
+abbrev pub readOrder : List ℕ
+readOrder =
+    checkNumber (replicate 15 0) (front7 61)
+    ∷ checkNumber (replicate 16 0) (front7 61)
+    ∷ fetchNumber (replicate 15 0) (front7 61) 61 []
+    ∷ fetchNumber (replicate 16 0) (front7 61) 61 []
+    ∷ recordNumber (replicate 15 0) (front7 61) 61
+    ∷ recordNumber (replicate 16 0) (front7 61) 61
+    ∷ []
+
 pub record Row : Type 0 where
   pub given : Grid
   pub said : Grid
@@ -137,9 +204,18 @@ marked =
     ∷ ((nonceOf edition1 (burst7 .identity .name) 2 ∷ []) is ((0x07 ∷ 0x00 ∷ 0x00 ∷ 0x00 ∷ 0x00 ∷ 0x00 ∷ 0x00 ∷ 0x00 ∷ 0x02 ∷ 0x00 ∷ 0x00 ∷ 0x00 ∷ 0x00 ∷ 0x00 ∷ 0x00 ∷ 0x00 ∷ []) ∷ []))
     ∷ (drop 60 (answers list60) is ((0 ∷ 0 ∷ 60 ∷ []) ∷ (9 ∷ 0 ∷ 0 ∷ []) ∷ (0 ∷ 0 ∷ 64 ∷ []) ∷ (8 ∷ 0 ∷ 0 ∷ []) ∷ []))
     ∷ ((refusals ∷ []) is ((1 ∷ 2 ∷ 3 ∷ 4 ∷ 5 ∷ 6 ∷ 7 ∷ 8 ∷ 9 ∷ 10 ∷ 11 ∷ 0 ∷ 11 ∷ 10 ∷ []) ∷ []))
-    ∷ (the (checkNumber (replicate 16 0) (front7 61)) is the 12)
     ∷ ((stripRefusals ∷ []) is ((14 ∷ 14 ∷ 14 ∷ 0 ∷ 4 ∷ []) ∷ []))
+    ∷ ((sealOrder ∷ []) is ((1 ∷ 2 ∷ 3 ∷ 4 ∷ []) ∷ []))
+    ∷ ((openOrder ∷ []) is ((1 ∷ 2 ∷ 4 ∷ 6 ∷ 5 ∷ 4 ∷ []) ∷ []))
+    ∷ ((startOrder ∷ []) is ((1 ∷ 2 ∷ 3 ∷ 4 ∷ 5 ∷ []) ∷ []))
+    ∷ ((stripOrder ∷ []) is ((14 ∷ 4 ∷ 5 ∷ []) ∷ []))
+    ∷ ((endOrder ∷ []) is ((14 ∷ 5 ∷ []) ∷ []))
+    ∷ ((beginOrder ∷ []) is ((1 ∷ 3 ∷ []) ∷ []))
+    ∷ ((keepOrder ∷ []) is ((8 ∷ 3 ∷ 9 ∷ 10 ∷ []) ∷ []))
+    ∷ ((dropCloseOrder ∷ []) is ((8 ∷ 8 ∷ 11 ∷ []) ∷ []))
+    ∷ ((readOrder ∷ []) is ((1 ∷ 12 ∷ 1 ∷ 12 ∷ 1 ∷ 12 ∷ []) ∷ []))
     ∷ ((listing (front7 1) ∷ listing (front7 61) ∷ []) is (ascii "burst 7\ntaken 3 kept 1 dropped 2\nshot 2 at 32 length 3\n" ∷ ascii "front 12\n" ∷ []))
+    ∷ ((listing (replicate 65536 0) ∷ listing (replicate 65537 0) ∷ []) is (ascii "front 12\n" ∷ ascii "front too long\n" ∷ []))
     ∷ []
 
 -- every row's two sides agree
