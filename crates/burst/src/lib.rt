@@ -456,8 +456,8 @@ fn keep_number(e: Edition, r: Recorder, stamp: usize, picture: usize, buffer: us
         return PICTURE_LENGTH;
     }
     let used = r.used as usize + picture + SEAL_LENGTH as usize;
-    let need = used + ENTRY_LENGTH * (r.kept.0 as usize + 1) + SEAL_LENGTH as usize;
-    if buffer < need {
+    let end = used + index_length(Place(r.kept.0 + 1));
+    if buffer < end + SEAL_LENGTH as usize {
         return BUFFER_TOO_SHORT;
     }
     0

@@ -4,6 +4,7 @@ use mathlib.Core.Path.{sym, _∙_}
 use native.Mathlib.Omega.{arith}
 use borrow.Author.Needs.{needs}
 use borrow.Author.Tests.{not-true, not-false}
+use Rattle.burst.proofs.Rules.{sounds}
 use Rattle.burst.proofs.Numbers.{keep-8, keep-3, keep-9, keep-10, keep-10′, keep-11, keep-0}
 use Rattle.burst.proofs.keep_number.Statement.{statement}
 use Rattle.burst.proofs.keep_number.Tie as tie
@@ -23,13 +24,21 @@ returns-4 c = keep-10 _ _ _ _ _ _ _ _ (sym (c .before .before .before .before .b
 returns-5 : tie.Need-returns-5
 returns-5 c = keep-10′ _ _ _ _ _ _ _ _ (sym (c .before .before .before .before .before .before .before .sound .ensures) ∙ not-false _ (c .before .before .before .before .before .before .if1 .left)) (omega arith) (omega arith) (omega arith) (omega arith)
 
+-- kept is at most taken, which is below the edition's shots
+add-t13 : tie.Need-add-t13
+add-t13 c =
+    let w = sounds _ _ (sym (c .before .before .before .before .before .before .before .before .before .sound .ensures) ∙ not-false _ (c .before .before .before .before .before .before .before .before .if1 .left)) in
+    omega (arith, w .kept, c .before .before .before .before .if3, c .before .before .before .before .before .before .before .before .before .before .pre .shots)
+
 returns-6 : tie.Need-returns-6
 returns-6 c =
-    keep-11 _ _ _ _ _ _ _ _ (sym (c .before .before .before .before .before .before .before .before .before .before .sound .ensures) ∙ not-false _ (c .before .before .before .before .before .before .before .before .before .if1 .left)) (omega arith) (omega arith) (omega arith) (omega arith) (omega arith)
+    let n = c .before .index-length .ensures in
+    keep-11 _ _ _ _ _ _ _ _ (sym (c .before .before .before .before .before .before .before .before .before .before .before .sound .ensures) ∙ not-false _ (c .before .before .before .before .before .before .before .before .before .before .if1 .left)) (omega arith) (omega arith) (omega arith) (omega arith) (omega (arith, n, c .if6))
 
 returns-7 : tie.Need-returns-7
 returns-7 c =
-    keep-0 _ _ _ _ _ _ _ _ (sym (c .before .before .before .before .before .before .before .before .before .before .sound .ensures) ∙ not-false _ (c .before .before .before .before .before .before .before .before .before .if1 .left)) (omega arith) (omega arith) (omega arith) (omega arith) (omega arith)
+    let n = c .before .index-length .ensures in
+    keep-0 _ _ _ _ _ _ _ _ (sym (c .before .before .before .before .before .before .before .before .before .before .before .sound .ensures) ∙ not-false _ (c .before .before .before .before .before .before .before .before .before .before .if1 .left)) (omega arith) (omega arith) (omega arith) (omega arith) (omega (arith, n, c .if6))
 
 pub keep-number-spec : {M : Type 1} → statement M
 keep-number-spec =
@@ -46,9 +55,8 @@ keep-number-spec =
     (λ c. search needs)
     (λ c. search needs)
     (λ c. search needs)
-    (λ c. search needs)
-    (λ c. search needs)
-    (λ c. search needs)
+    add-t13
+    (λ c κs. search needs)
     (λ c. search needs)
     (λ c. search needs)
     (λ c. search needs)
