@@ -2,7 +2,6 @@
 -- Assumes nothing.
 use mathlib.Core.Bool.{Bool, true, false, not}
 use mathlib.Core.List.{[]}
-use mathlib.Core.Option.{Option, some, none}
 use mathlib.Core.Path.{_≡_, refl, sym, ap, ap₂, _∙_}
 use Prim.Native.Nat.{ℕ, zero, suc, _≤_, _<_}
 use native.Mathlib.Omega.{arith}
@@ -16,15 +15,18 @@ use Rattle.reader.specs.declared.Checked.{Checked}
 use Rattle.reader.specs.declared.Fetched.{Fetched}
 use Rattle.reader.specs.declared.Header.{Header}
 use Rattle.reader.specs.declared.Located.{Located}
+use Rattle.reader.specs.declared.Verdict.{Verdict}
+use Rattle.reader.specs.declared.Verdict.the-variants.{Agree, Differs}
+use Rattle.reader.specs.Verdicts.{verdictNumber, verdictMark}
 use Rattle.reader.specs.Front.{headerIn, keptIn, indexOffsetIn, entryAt, positionOf, frontRules}
-use Rattle.reader.specs.Reader.{closingPart, recordPart, recordParts, agrees, markIn, bodyIn, sealedIn, firstDiffering, differing, some?, notChecked, notFetched, checkNumber, checkMark, checkAnswer, recordNumber, locateAnswer, recordOffset, recordBytesIn, fetchNumber, fetchAnswer, fetchOutput}
+use Rattle.reader.specs.Reader.{closingPart, recordPart, recordParts, agrees, markIn, bodyIn, sealedIn, verdictOn, verdict, notChecked, notFetched, checkNumber, checkMark, checkAnswer, recordNumber, locateAnswer, recordOffset, recordBytesIn, fetchNumber, fetchAnswer, fetchOutput}
 use Rattle.reader.proofs.Rules.{Front, front, InRange, in-range-at}
 use Rattle.reader.proofs.Parts.{first-agrees, all-agree}
 
 -- ---- check
 module _ (key f : Bytes) where
-  abbrev Records : Option ℕ
-  Records = firstDiffering key f (recordParts (keptIn f) (indexOffsetIn f) f)
+  abbrev Records : Verdict
+  Records = verdictOn key f (recordParts (keptIn f) (indexOffsetIn f) f)
 
   -- a number with its mark
   abbrev Refuses : ℕ → ℕ → Type 0
@@ -44,33 +46,35 @@ module _ (key f : Bytes) where
     check-12 h = check-not 12 0 (λ e. omega arith) (simp (eq-eqb (length key) 16 hk, h), simp (eq-eqb (length key) 16 hk, h))
 
     module _ (hf : frontRules f ≡ true) where
-      by-differing : (shot : ℕ) → differing key f ≡ some shot → notChecked 7 shot ≡ checkAnswer key f
+      -- a verdict with a number
+      by-verdict : (v : Verdict) → verdict key f ≡ v → (verdictNumber v ≡ 0 → ⊥) → notChecked (verdictNumber v) (verdictMark v) ≡ checkAnswer key f
       unfolding checkNumber checkMark
-      by-differing shot d =
-          check-not 7 shot (λ e. omega arith) (simp (eq-eqb (length key) 16 hk, hf, d), simp (eq-eqb (length key) 16 hk, hf, d))
+      by-verdict Agree d h = absurd (h refl)
+      by-verdict (Differs shot) d h =
+          check-not 7 (shot .0) h (simp (eq-eqb (length key) 16 hk, hf, d), simp (eq-eqb (length key) 16 hk, hf, d))
 
       pub check-closing : agrees key f (closingPart f) ≡ false → notChecked 7 0 ≡ checkAnswer key f
-      unfolding differing firstDiffering
-      check-closing h = by-differing 0 (simp h)
+      unfolding verdict verdictOn
+      check-closing h = by-verdict (Differs (record { 0 = 0 })) (simp h) (λ e. omega arith)
 
       module _ (hc : agrees key f (closingPart f) ≡ true) where
-        all-records : differing key f ≡ Records
-        unfolding differing firstDiffering
+        all-records : verdict key f ≡ Records
+        unfolding verdict verdictOn
         all-records = simp hc
 
-        pub check-record : (shot : ℕ) → Records ≡ some shot → notChecked 7 shot ≡ checkAnswer key f
-        check-record shot h = by-differing shot (all-records ∙ h)
+        pub check-record : (v : Verdict) → v ≡ Records → (verdictNumber v ≡ 0 → ⊥) → notChecked (verdictNumber v) (verdictMark v) ≡ checkAnswer key f
+        check-record v h n = by-verdict v (all-records ∙ sym h) n
 
-        module _ (hr : Records ≡ none) where
+        module _ (hr : Records ≡ Agree) where
           pub check-zero : checkNumber key f ≡ 0
           unfolding checkNumber
           check-zero = simp (eq-eqb (length key) 16 hk, hf, all-records, hr)
 
           pub check-0 : (h : Header) → h ≡ headerIn f → (site : Bytes) → site ≡ markIn key f (closingPart f)
-              → record { refusal = 0; mark = 0; «burst_number» = h .«burst_number»; «site_mark» = site; taken = h .taken .0; kept = h .kept .0; dropped = h .dropped } ≡ checkAnswer key f
+              → record { refusal = 0; mark = 0; «burst_number» = h .«burst_number»; «site_mark» = site; taken = h .taken; kept = h .kept; dropped = h .dropped } ≡ checkAnswer key f
           unfolding checkAnswer checkMark
           check-0 h e site s =
-              ap₂ (λ (x : Header) (y : Bytes). let z : Checked = record { refusal = 0; mark = 0; «burst_number» = x .«burst_number»; «site_mark» = y; taken = x .taken .0; kept = x .kept .0; dropped = x .dropped } in z) e s
+              ap₂ (λ (x : Header) (y : Bytes). let z : Checked = record { refusal = 0; mark = 0; «burst_number» = x .«burst_number»; «site_mark» = y; taken = x .taken; kept = x .kept; dropped = x .dropped } in z) e s
               ∙ sym (simp check-zero)
 
 -- what check answers, field by field
@@ -87,28 +91,33 @@ module _ (key f : Bytes) (c : Checked) (is : c ≡ checkAnswer key f) where
     zero-is : checkNumber key f ≡ 0
     zero-is = sym checked-number ∙ z
 
-    pub checked-kept : c .kept ≡ keptIn f
+    pub checked-kept : c .kept .0 ≡ keptIn f
     unfolding checkAnswer
-    checked-kept = ap (λ (x : Checked). x .kept) is ∙ simp zero-is
+    checked-kept = ap (λ (x : Checked). x .kept .0) is ∙ simp zero-is
 
 -- ---- what an accepted file obeys
 pub record Accepted (key f : Bytes) : Type 0 where
   pub key16 : length key ≡ 16
   pub front : Front f
   pub closing : agrees key f (closingPart f) ≡ true
-  pub records : firstDiffering key f (recordParts (keptIn f) (indexOffsetIn f) f) ≡ none
+  pub records : verdictOn key f (recordParts (keptIn f) (indexOffsetIn f) f) ≡ Agree
 
-not-some : (o : Option ℕ) → some? o ≡ false → o ≡ none
-not-some none h = refl
-not-some (some x) h = let z : _≡_ {A = ℕ} 0 1 = cc in absurd (omega arith)
+-- a number that is not refused
+first-passed : (n rest : ℕ) → pick (not (eqb n 0)) n rest ≡ 0 → (n ≡ 0) × (rest ≡ 0)
+first-passed zero rest h = (refl, h)
+first-passed (suc n) rest h = let z : suc n ≡ 0 = simp (ne-eqb (suc n) 0 (λ i. omega arith)) at h in absurd (omega arith)
+
+pub agree : (v : Verdict) → verdictNumber v ≡ 0 → v ≡ Agree
+agree Agree h = refl
+agree (Differs shot) h = absurd (omega arith)
 
 pub accepted : (key f : Bytes) → checkNumber key f ≡ 0 → Accepted key f
-unfolding checkNumber differing
+unfolding checkNumber verdict
 accepted key f h =
     let p₁ = passed (not (eqb (length key) 16)) _ _ h in
     let p₁₂ = passed (not (frontRules f)) _ _ (p₁ .1) in
-    let p₇ = passed (some? (differing key f)) _ _ (p₁₂ .1) in
-    let d = first-agrees key f (closingPart f) (recordParts (keptIn f) (indexOffsetIn f) f) (not-some (differing key f) (p₇ .0)) in
+    let p₇ = first-passed (verdictNumber (verdict key f)) _ (p₁₂ .1) in
+    let d = first-agrees key f (closingPart f) (recordParts (keptIn f) (indexOffsetIn f) f) (agree (verdict key f) (p₇ .0)) in
     record { key16 = eqb-true _ _ (not-false _ (p₁ .0)); front = front f (not-false _ (p₁₂ .0)); closing = d .0; records = d .1 }
 
 -- ---- a place
@@ -120,10 +129,6 @@ pub record Found (key f : Bytes) (place : ℕ) : Type 0 where
   pub agrees : agrees key f (recordPart f (positionOf f place)) ≡ true
 
 module _ (key f : Bytes) (place : ℕ) where
-  first-passed : (n rest : ℕ) → pick (not (eqb n 0)) n rest ≡ 0 → (n ≡ 0) × (rest ≡ 0)
-  first-passed zero rest h = (refl, h)
-  first-passed (suc n) rest h = let z : suc n ≡ 0 = simp (ne-eqb (suc n) 0 (λ i. omega arith)) at h in absurd (omega arith)
-
   pub found : recordNumber key f place ≡ 0 → Found key f place
   unfolding recordNumber
   found h =

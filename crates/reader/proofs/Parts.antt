@@ -2,39 +2,41 @@
 -- Assumes nothing.
 use mathlib.Core.Bool.{Bool, true, false}
 use mathlib.Core.List.{List, _∷_}
-use mathlib.Core.Option.{Option, some, none}
 use mathlib.Core.Path.{_≡_, refl, sym, ap, _∙_}
 use Prim.Native.Nat.{ℕ, zero, suc, _+_, _*_, _<_}
 use native.Mathlib.Omega.{arith}
 use Rattle.bytes_le.specs.Bytes.{Bytes}
 use Rattle.icepole.specs.Sealing.{pick}
-use Rattle.reader.specs.Reader.{Part, recordPart, recordParts, agrees, firstDiffering}
+use Rattle.burst.specs.declared.Shot.{Shot}
+use Rattle.reader.specs.declared.Verdict.{Verdict}
+use Rattle.reader.specs.declared.Verdict.the-variants.{Agree, Differs}
+use Rattle.reader.specs.Reader.{Part, recordPart, recordParts, agrees, verdictOn}
 
 module _ (key f : Bytes) where
-  pub parts-end : (position : ℕ) → firstDiffering key f (recordParts 0 position f) ≡ none
-  unfolding firstDiffering recordParts
+  pub parts-end : (position : ℕ) → verdictOn key f (recordParts 0 position f) ≡ Agree
+  unfolding verdictOn recordParts
   parts-end position = refl
 
   module _ (left position : ℕ) where
     pub parts-next : agrees key f (recordPart f position) ≡ true
-        → firstDiffering key f (recordParts (suc left) position f) ≡ firstDiffering key f (recordParts left (position + 12) f)
-    unfolding firstDiffering recordParts
+        → verdictOn key f (recordParts (suc left) position f) ≡ verdictOn key f (recordParts left (position + 12) f)
+    unfolding verdictOn recordParts
     parts-next h = simp h
 
-    pub parts-differ : agrees key f (recordPart f position) ≡ false → firstDiffering key f (recordParts (suc left) position f) ≡ some (recordPart f position .shot)
-    unfolding firstDiffering recordParts
+    pub parts-differ : agrees key f (recordPart f position) ≡ false → verdictOn key f (recordParts (suc left) position f) ≡ Differs (record { 0 = recordPart f position .shot })
+    unfolding verdictOn recordParts
     parts-differ h = simp h
 
-  passed : (b : Bool) (o : Option ℕ) (s : ℕ) → pick b o (some s) ≡ none → (b ≡ true) × (o ≡ none)
-  passed true o s h = (refl, h)
-  passed false o s h = let z : _≡_ {A = ℕ} 0 1 = cc in absurd (omega arith)
+  passed : (b : Bool) (v : Verdict) (s : Shot) → pick b v (Differs s) ≡ Agree → (b ≡ true) × (v ≡ Agree)
+  passed true v s h = (refl, h)
+  passed false v s h = let z : _≡_ {A = ℕ} 0 1 = cc in absurd (omega arith)
 
-  pub first-agrees : (p : Part) (ps : List Part) → firstDiffering key f (p ∷ ps) ≡ none → (agrees key f p ≡ true) × (firstDiffering key f ps ≡ none)
-  unfolding firstDiffering
-  first-agrees p ps h = passed (agrees key f p) (firstDiffering key f ps) (p .shot) h
+  pub first-agrees : (p : Part) (ps : List Part) → verdictOn key f (p ∷ ps) ≡ Agree → (agrees key f p ≡ true) × (verdictOn key f ps ≡ Agree)
+  unfolding verdictOn
+  first-agrees p ps h = passed (agrees key f p) (verdictOn key f ps) (record { 0 = p .shot }) h
 
   -- every record agrees
-  pub all-agree : (n position j : ℕ) → firstDiffering key f (recordParts n position f) ≡ none → j < n → agrees key f (recordPart f (position + 12 * j)) ≡ true
+  pub all-agree : (n position j : ℕ) → verdictOn key f (recordParts n position f) ≡ Agree → j < n → agrees key f (recordPart f (position + 12 * j)) ≡ true
   unfolding recordParts
   all-agree zero position j h g = absurd (omega arith)
   all-agree (suc n) position zero h g =

@@ -1,3 +1,3 @@
 pub mod Front
-pub mod Reader
 pub mod Verdicts
+pub mod Reader

@@ -1,8 +1,7 @@
 -- The reader's calls (01, "Reader"): what check, fetch and record answer and leave, for good and bad calls.
 -- Assumes nothing.
-use mathlib.Core.Bool.{Bool, true, false, not}
+use mathlib.Core.Bool.{Bool, not}
 use mathlib.Core.List.{List, [], _∷_, _++_}
-use mathlib.Core.Option.{Option, some, none}
 use Prim.Native.Nat.{ℕ, zero, suc, _+_, _*_}
 use lib.Dec.{eqb, leb, ltb}
 use lib.ListN.{length, take, drop, replicate}
@@ -15,6 +14,9 @@ use Rattle.burst.specs.Layout.{entryLength, closingOffset}
 use Rattle.reader.specs.declared.Checked.{Checked}
 use Rattle.reader.specs.declared.Fetched.{Fetched}
 use Rattle.reader.specs.declared.Located.{Located}
+use Rattle.reader.specs.declared.Verdict.{Verdict}
+use Rattle.reader.specs.declared.Verdict.the-variants.{Agree, Differs}
+use Rattle.reader.specs.Verdicts.{verdictNumber, verdictMark}
 use Rattle.reader.specs.Front.{editionIn, nameIn, takenIn, keptIn, droppedIn, burstNumberIn, indexOffsetIn, entryAt, positionOf, frontRules}
 
 -- ---- the sealed parts of a file
@@ -65,14 +67,14 @@ module _ (key f : Bytes) where
   unfoldable pub answerIn : Part → Opened
   answerIn p = partAnswer (editionIn f) key (nameIn f) (p .shot) (p .associated) (sealedIn p)
 
-  -- the shot number of the first part whose tag differs
-  unfoldable pub firstDiffering : List Part → Option ℕ
-  firstDiffering [] = none
-  firstDiffering (p ∷ ps) = pick (agrees p) (firstDiffering ps) (some (p .shot))
+  -- the first part whose tag differs decides
+  unfoldable pub verdictOn : List Part → Verdict
+  verdictOn [] = Agree
+  verdictOn (p ∷ ps) = pick (agrees p) (verdictOn ps) (Differs (record { 0 = p .shot }))
 
   -- the closing seal, then the records in order
-  unfoldable pub differing : Option ℕ
-  differing = firstDiffering (closingPart f ∷ recordParts (keptIn f) (indexOffsetIn f) f)
+  unfoldable pub verdict : Verdict
+  verdict = verdictOn (closingPart f ∷ recordParts (keptIn f) (indexOffsetIn f) f)
 
 -- with a refusal go zeros
 abbrev pub given : ℕ → ℕ → ℕ
@@ -81,14 +83,6 @@ given num x = pick (eqb num 0) x 0
 abbrev pub given16 : ℕ → Bytes → Bytes
 given16 num bytes = pick (eqb num 0) bytes (replicate 16 0)
 
-abbrev pub some? : Option ℕ → Bool
-some? none = false
-some? (some shot) = true
-
-abbrev pub shotIn : Option ℕ → ℕ
-shotIn none = 0
-shotIn (some shot) = shot
-
 -- ---- what a refused call answers
 abbrev pub notChecked : ℕ → ℕ → Checked
 notChecked num mark = record {
@@ -96,8 +90,8 @@ notChecked num mark = record {
   mark = mark;
   «burst_number» = 0;
   «site_mark» = replicate 16 0;
-  taken = 0;
-  kept = 0;
+  taken = record { 0 = 0 };
+  kept = record { 0 = 0 };
   dropped = 0;
 }
 
@@ -111,12 +105,12 @@ module _ (key f : Bytes) where
       refusal
       ((1 when not (eqb (length key) 16))
       ∷ (12 when not (frontRules f))
-      ∷ (7 when some? (differing key f))
+      ∷ (verdictNumber (verdict key f) when not (eqb (verdictNumber (verdict key f)) 0))
       ∷ [])
 
-  -- 0 except under 7: then 0 for the closing seal, else the shot number
+  -- 0 except under 7: then the verdict's
   unfoldable pub checkMark : ℕ
-  checkMark = pick (eqb checkNumber 7) (shotIn (differing key f)) 0
+  checkMark = pick (eqb checkNumber 7) (verdictMark (verdict key f)) 0
 
   unfoldable pub checkAnswer : Checked
   checkAnswer = record {
@@ -124,8 +118,8 @@ module _ (key f : Bytes) where
     mark = checkMark;
     «burst_number» = given checkNumber (burstNumberIn f);
     «site_mark» = given16 checkNumber (markIn key f (closingPart f));
-    taken = given checkNumber (takenIn f);
-    kept = given checkNumber (keptIn f);
+    taken = record { 0 = given checkNumber (takenIn f) };
+    kept = record { 0 = given checkNumber (keptIn f) };
     dropped = given checkNumber (droppedIn f);
   }
 

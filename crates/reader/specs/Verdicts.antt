@@ -1,10 +1,14 @@
--- The verdict on a list of sealed parts: for each case, the shot number of the first part whose tag differs.
+-- The cases of a verdict on sealed parts: for each its refusal number and its mark (01, "Turned down, by example").
 -- Assumes nothing.
-use mathlib.Core.Option.{Option, some, none}
 use Prim.Native.Nat.{ℕ}
 use Rattle.reader.specs.declared.Verdict.{Verdict}
 use Rattle.reader.specs.declared.Verdict.the-variants.{Agree, Differs}
 
-abbrev pub differingOf : Verdict → Option ℕ
-differingOf Agree = none
-differingOf (Differs shot) = some (shot .0)
+abbrev pub verdictNumber : Verdict → ℕ
+verdictNumber Agree = 0
+verdictNumber (Differs shot) = 7
+
+-- 0 for the closing seal, which has shot number 0, else the shot number
+abbrev pub verdictMark : Verdict → ℕ
+verdictMark Agree = 0
+verdictMark (Differs shot) = shot .0

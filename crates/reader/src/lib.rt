@@ -23,8 +23,8 @@ ghost use Rattle.burst.specs.Parts.{sealLength};
 ghost use Rattle.burst.specs.Layout.{entryLength, maxPicture};
 ghost use Rattle.burst.specs.Index.{indexRules};
 ghost use Rattle.reader.specs.Front.{headerIn, keptIn, indexOffsetIn, entryAt, entriesAt, editionIn, nameIn, restRules, frontRules};
-ghost use Rattle.reader.specs.Reader.{closingPart, recordPart, recordParts, agrees, answerIn, markIn, bodyIn, firstDiffering, notChecked, notFetched, checkMark, checkAnswer, locateAnswer, recordNumber, recordOffset, recordBytesIn, fetchAnswer, fetchOutput};
-ghost use Rattle.reader.specs.Verdicts.{differingOf};
+ghost use Rattle.reader.specs.Reader.{closingPart, recordPart, recordParts, agrees, answerIn, markIn, bodyIn, verdictOn, notChecked, notFetched, checkMark, checkAnswer, locateAnswer, recordNumber, recordOffset, recordBytesIn, fetchAnswer, fetchOutput};
+ghost use Rattle.reader.specs.Verdicts.{verdictNumber, verdictMark};
 
 // What check answers: a refusal number with its mark, or what the file says.
 pub struct Checked {
@@ -32,8 +32,8 @@ pub struct Checked {
     pub mark: u32,
     pub burst_number: u64,
     pub site_mark: [u8; 16],
-    pub taken: u16,
-    pub kept: u16,
+    pub taken: Shot,
+    pub kept: Place,
     pub dropped: u16,
 }
 
@@ -53,7 +53,7 @@ pub struct Fetched {
     pub length: u32,
 }
 
-// Whether the tags of some records agree, or the first shot whose tag differs.
+// Whether the tags of some sealed parts agree, or the first shot whose tag differs, 0 for the closing seal.
 enum Verdict {
     Agree,
     Differs(Shot),
@@ -77,17 +77,17 @@ pub fn entry_at(f: &[u8], position: usize) -> Entry
 }
 
 // Whether the entries from a position on obey the index rules.
-fn index_ok(f: &[u8], header: u32, count: usize, start: usize, taken: u16, end: u32) -> bool
-    requires { ⌜ (start + entryLength * count ≤ length (now f)) × (count ≤ maxEntries) × (header ≤ maxHeader) ⌝ }
-    ensures { λ b. ⌜ b ≡ indexRules 0 header taken end (entriesAt count start (now (f .entry))) ⌝ }
+fn index_ok(f: &[u8], header: u32, kept: Place, start: usize, taken: Shot, end: u32) -> bool
+    requires { ⌜ (start + entryLength * kept .0 ≤ length (now f)) × (kept .0 ≤ maxEntries) × (header ≤ maxHeader) ⌝ }
+    ensures { λ b. ⌜ b ≡ indexRules 0 header (taken .0) end (entriesAt (kept .0) start (now (f .entry))) ⌝ }
 {
-    let mut left = count;
+    let mut left = kept.0 as usize;
     let mut position = start;
     let mut last: u16 = 0;
     let mut offset = header;
     while 0 < left {
         let x = entry_at(f, position);
-        if !burst::entry_ok(Shot(last), offset, Shot(taken), x) {
+        if !burst::entry_ok(Shot(last), offset, taken, x) {
             return false;
         }
         offset = offset + x.length + SEAL_LENGTH;
@@ -212,7 +212,7 @@ pub fn front_ok(f: &[u8]) -> bool
     if !rest_ok(e, f) {
         return false;
     }
-    index_ok(f, e.header, kept, index, h.taken.0, h.index)
+    index_ok(f, e.header, h.kept, index, h.taken, h.index)
 }
 
 // Whether the tag agrees of the record whose entry stands at a position.
@@ -244,13 +244,13 @@ fn verify_records(
     f: &[u8],
     e: Edition,
     name: Name,
-    count: usize,
+    kept: Place,
     start: usize,
 ) -> Verdict
-    requires { ⌜ (length (now key) ≡ 16) × (frontRules (now f) ≡ true) × (e ≡ editionIn (now f)) × (name ≡ nameIn (now f)) × (count ≡ keptIn (now f)) × (start ≡ indexOffsetIn (now f)) ⌝ }
-    ensures { λ v. ⌜ differingOf v ≡ firstDiffering (now (key .entry)) (now (f .entry)) (recordParts count start (now (f .entry))) ⌝ }
+    requires { ⌜ (length (now key) ≡ 16) × (frontRules (now f) ≡ true) × (e ≡ editionIn (now f)) × (name ≡ nameIn (now f)) × (kept .0 ≡ keptIn (now f)) × (start ≡ indexOffsetIn (now f)) ⌝ }
+    ensures { λ v. ⌜ v ≡ verdictOn (now (key .entry)) (now (f .entry)) (recordParts (kept .0) start (now (f .entry))) ⌝ }
 {
-    let mut left = count;
+    let mut left = kept.0 as usize;
     let mut position = start;
     while 0 < left {
         if !record_agrees(key, f, e, name, position) {
@@ -264,6 +264,25 @@ fn verify_records(
     Verdict::Agree
 }
 
+// The number and the mark of a verdict.
+fn verdict_number(v: Verdict) -> u32
+    ensures { λ n. ⌜ n ≡ verdictNumber v ⌝ }
+{
+    match v {
+        Verdict::Differs(shot) => TAG_DIFFERS,
+        Verdict::Agree => 0,
+    }
+}
+
+fn verdict_mark(v: Verdict) -> u32
+    ensures { λ n. ⌜ n ≡ verdictMark v ⌝ }
+{
+    match v {
+        Verdict::Differs(shot) => shot.0 as u32,
+        Verdict::Agree => 0,
+    }
+}
+
 fn not_checked(refusal: u32, mark: u32) -> Checked
     ensures { λ r. ⌜ r ≡ notChecked refusal mark ⌝ }
 {
@@ -272,8 +291,8 @@ fn not_checked(refusal: u32, mark: u32) -> Checked
         mark,
         burst_number: 0,
         site_mark: [0u8; 16],
-        taken: 0,
-        kept: 0,
+        taken: Shot(0),
+        kept: Place(0),
         dropped: 0,
     }
 }
@@ -305,21 +324,22 @@ pub fn check(key: &[u8], f: &[u8]) -> Checked
     if closing.refusal != 0 {
         return not_checked(TAG_DIFFERS, 0);
     }
-    let verdict = verify_records(key, f, e, name, h.kept.0 as usize, h.index as usize);
-    match verdict {
-        Verdict::Differs(shot) => not_checked(TAG_DIFFERS, shot.0 as u32),
-        Verdict::Agree => {
-            let site_mark = closing.secret;
-            Checked {
-                refusal: 0,
-                mark: 0,
-                burst_number: h.burst_number,
-                site_mark,
-                taken: h.taken.0,
-                kept: h.kept.0,
-                dropped: h.dropped,
-            }
-        }
+    let verdict = verify_records(key, f, e, name, h.kept, h.index as usize);
+    let number = verdict_number(verdict);
+    if number != 0 {
+        return not_checked(number, verdict_mark(verdict));
+    }
+    let site_mark = closing.secret;
+    let taken = h.taken;
+    let kept = h.kept;
+    Checked {
+        refusal: 0,
+        mark: 0,
+        burst_number: h.burst_number,
+        site_mark,
+        taken,
+        kept,
+        dropped: h.dropped,
     }
 }
 
@@ -335,7 +355,7 @@ pub fn locate(key: &[u8], f: &[u8], place: Place) -> Located
             position: 0,
         };
     }
-    if place.0 >= c.kept {
+    if place.0 >= c.kept.0 {
         return Located {
             refusal: NO_SUCH_PLACE,
             mark: 0,
