@@ -8,8 +8,9 @@ use native.Mathlib.Nat.{zero-add}
 use native.Mathlib.Omega.{arith}
 use borrow.Author.Tests.{le-ltb, lt-ltb}
 use lib.Dec.{eqb, ltb}
-use lib.ListN.{length, length-append}
+use lib.ListN.{length, take, length-append}
 use Rattle.bytes_le.specs.Bytes.{Bytes, putBytes}
+use Rattle.bytes_le.proofs.Laws.{take-put}
 use Rattle.icepole.specs.Sealing.{pick}
 use Rattle.burst.specs.declared.Entry.{Entry}
 use Rattle.burst.specs.Editions.{maxEntries}
@@ -121,18 +122,6 @@ front-put f h eh o o₁ o₂ i r ho hk ei e₁ er e₂ =
     let e = ap (λ (h : Header). headLines (h .«burst_number») (h .taken .0) (h .kept .0) (h .dropped) ++ shotLines (entriesAt (h .kept .0) (h .index) f)) eh in
     (p .index ∙ zero-add _ ∙ ap length e, p .bytes ∙ ap (putBytes o 0) e)
 
--- ---- the call's answer
-pub list-refused : (f o : Bytes) → length o < textRoom → (record { refusal = 5; mark = 0; length = 0 } ≡ listAnswer f o) × (o ≡ listOutput f o)
-unfolding listAnswer listOutput listNumber
-list-refused f o h = let z = lt-ltb (length o) textRoom h in (sym (simp z), sym (simp z))
-
-pub list-done : (f o o′ : Bytes) (n : ℕ) → textRoom ≤ length o → n ≡ length (listing f) → o′ ≡ putBytes o 0 (listing f)
-    → (record { refusal = 0; mark = 0; length = n } ≡ listAnswer f o) × (o′ ≡ listOutput f o)
-unfolding listAnswer listOutput listNumber
-list-done f o o′ n h en eo =
-    let z = le-ltb (length o) textRoom h in
-    (ap (λ (n : ℕ). record { refusal = 0; mark = 0; length = n }) en ∙ sym (simp z), eo ∙ sym (simp z))
-
 -- ---- every text has room
 pub listing-length : (f : Bytes) → length (listing f) ≤ textRoom
 unfolding listing frontLines
@@ -148,14 +137,29 @@ listing-length f = by (ltb 65536 (length f)) (frontRules f) refl
         let l = length-append (headLines (burstNumberIn f) (takenIn f) (keptIn f) (droppedIn f)) (shotLines (entriesAt (keptIn f) (indexOffsetIn f) f)) in
         omega (arith, a, s, l, w .most, w .counts)
 
-pub told-length : (f o : Bytes) (r : Listed) → r ≡ listAnswer f o → r .length ≤ textRoom
-unfolding listAnswer
-told-length f o r e = subst (λ (n : ℕ). n ≤ textRoom) (sym (ap (λ (r : Listed). r .length) e)) (by (eqb (listNumber o) 0))
-  where
-    by : (t : Bool) → pick t (length (listing f)) 0 ≤ textRoom
-    by true = listing-length f
-    by false = omega arith
+-- ---- the call's answer
+module _ (f o : Bytes) where
+  pub list-refused : length o < length (listing f) → (record { refusal = 5; mark = 0; length = 0 } ≡ listAnswer f o) × (o ≡ listOutput f o)
+  unfolding listAnswer listOutput listNumber
+  list-refused h = let z = lt-ltb (length o) (length (listing f)) h in (sym (simp z), sym (simp z))
 
-pub told-number : (f o : Bytes) (r : Listed) → r ≡ listAnswer f o → r .refusal ≡ listNumber o
-unfolding listAnswer
-told-number f o r e = ap (λ (r : Listed). r .refusal) e
+  -- the text was put at the front of t, and from there into the output
+  pub list-done : (n : ℕ) (t t′ o′ : Bytes) → n ≡ length (listing f) → t′ ≡ putBytes t 0 (listing f) → n ≤ length o → o′ ≡ putBytes o 0 (take n t′)
+      → (record { refusal = 0; mark = 0; length = n } ≡ listAnswer f o) × (o′ ≡ listOutput f o)
+  unfolding listAnswer listOutput listNumber
+  list-done n t t′ o′ en et h eo =
+      let z = le-ltb (length o) (length (listing f)) (omega arith) in
+      let e = ap (take n) et ∙ take-put t 0 (listing f) n (en ∙ sym (zero-add _)) (omega arith) in
+      (ap (λ (n : ℕ). record { refusal = 0; mark = 0; length = n }) en ∙ sym (simp z), eo ∙ ap (putBytes o 0) e ∙ sym (simp z))
+
+  pub told-length : (r : Listed) → r ≡ listAnswer f o → r .length ≤ textRoom
+  unfolding listAnswer
+  told-length r e = subst (λ (n : ℕ). n ≤ textRoom) (sym (ap (λ (r : Listed). r .length) e)) (by (eqb (listNumber f o) 0))
+    where
+      by : (t : Bool) → pick t (length (listing f)) 0 ≤ textRoom
+      by true = listing-length f
+      by false = omega arith
+
+  pub told-number : (r : Listed) → r ≡ listAnswer f o → r .refusal ≡ listNumber f o
+  unfolding listAnswer
+  told-number r e = ap (λ (r : Listed). r .refusal) e

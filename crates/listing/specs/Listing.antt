@@ -47,16 +47,19 @@ listing f =
     pick (ltb maxListed (length f)) (ascii "front too long\n")
     (pick (frontRules f) (frontLines f) (ascii "front 12\n"))
 
--- ---- the call: 5 where the output has less than this room, 80 bytes for each shot of the longest burst, which is enough for every text
+-- room for every text: 80 bytes for each shot of the longest burst
 abbrev pub textRoom : ℕ
 textRoom = 80 * maxEntries
 
-unfoldable pub listNumber : Bytes → ℕ
-listNumber out = refusal ((5 when ltb (length out) textRoom) ∷ [])
+-- ---- the call
+module _ (f out : Bytes) where
+  -- 5 where the text does not fit
+  unfoldable pub listNumber : ℕ
+  listNumber = refusal ((5 when ltb (length out) (length (listing f))) ∷ [])
 
--- the length of the text
-unfoldable pub listAnswer : Bytes → Bytes → Listed
-listAnswer f out = record { refusal = listNumber out; mark = 0; length = pick (eqb (listNumber out) 0) (length (listing f)) 0 }
+  -- the length of the text
+  unfoldable pub listAnswer : Listed
+  listAnswer = record { refusal = listNumber; mark = 0; length = pick (eqb listNumber 0) (length (listing f)) 0 }
 
-unfoldable pub listOutput : Bytes → Bytes → Bytes
-listOutput f out = unless (listNumber out) out (putBytes out 0 (listing f))
+  unfoldable pub listOutput : Bytes
+  listOutput = unless listNumber out (putBytes out 0 (listing f))

@@ -1,6 +1,7 @@
 // The text that the lister prints for a file (01, "Afterwards"): no key, front rules only.
 use burst::ENTRY_LENGTH;
 use burst::MAX_ENTRIES;
+use burst::Place;
 use icepole::OUTPUT_TOO_SHORT;
 ghost use mathlib.Core.Path.{_≡_};
 ghost use Prim.Native.Nat.{_+_, _*_, _≤_};
@@ -89,12 +90,12 @@ fn put_shot(out: &mut [u8], at: usize, shot: u64, offset: u64, size: u64) -> usi
 }
 
 // The lines of the entries from a position of the file on.
-fn put_shots(f: &[u8], count: usize, start: usize, out: &mut [u8], from: usize) -> usize
-    requires { ⌜ (start + entryLength * count ≤ length (now f)) × (count ≤ maxEntries) × (from + 78 * count ≤ length (now out)) ⌝ }
-    ensures { λ r. ⌜ (r ≡ from + length (shotLines (entriesAt count start (now (f .entry)))))
-        × (now (out .exit) ≡ putBytes (now (out .entry)) from (shotLines (entriesAt count start (now (f .entry))))) ⌝ }
+fn put_shots(f: &[u8], kept: Place, start: usize, out: &mut [u8], from: usize) -> usize
+    requires { ⌜ (start + entryLength * kept .0 ≤ length (now f)) × (kept .0 ≤ maxEntries) × (from + 78 * kept .0 ≤ length (now out)) ⌝ }
+    ensures { λ r. ⌜ (r ≡ from + length (shotLines (entriesAt (kept .0) start (now (f .entry)))))
+        × (now (out .exit) ≡ putBytes (now (out .entry)) from (shotLines (entriesAt (kept .0) start (now (f .entry))))) ⌝ }
 {
-    let mut left = count;
+    let mut left = kept.0 as usize;
     let mut position = start;
     let mut at = from;
     while 0 < left {
@@ -128,21 +129,23 @@ fn put_listing(f: &[u8], out: &mut [u8]) -> usize
         kept.0 as u64,
         h.dropped as u64,
     );
-    put_shots(f, kept.0 as usize, index as usize, out, from)
+    put_shots(f, kept, index as usize, out, from)
 }
 
 // The listing of a file.
 pub fn list_front(f: &[u8], out: &mut [u8]) -> Listed
     ensures { λ r. ⌜ (r ≡ listAnswer (now (f .entry)) (now (out .entry))) × (now (out .exit) ≡ listOutput (now (f .entry)) (now (out .entry))) ⌝ }
 {
-    if out.len() < TEXT_ROOM {
+    let mut text = [0u8; TEXT_ROOM];
+    let length = put_listing(f, &mut text);
+    if out.len() < length {
         return Listed {
             refusal: OUTPUT_TOO_SHORT,
             mark: 0,
             length: 0,
         };
     }
-    let length = put_listing(f, out);
+    bytes_le::put_bytes(out, 0, &text[..length]);
     Listed {
         refusal: 0,
         mark: 0,

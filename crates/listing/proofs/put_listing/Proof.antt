@@ -30,20 +30,20 @@ header-in-requires c κs =
 
 put-shots-requires : tie.Need-put-shots-requires
 put-shots-requires c κs =
-    let a = c .before .before .before .before .before .before .before .before .before .before .before .before .before .before .before .before .args in
-    let h = c .before .before .before .before .before .before .before .before .before .before .header-in .result in
-    let w = reads (a .f .now) _ h (c .before .before .before .before .before .before .before .before .before .before .header-in .ensures) refl (front (a .f .now) (sym (c .before .before .before .before .before .before .before .before .before .before .before .before .front-ok .ensures) ∙ not-false _ (c .before .before .before .before .before .before .before .before .before .before .before .if2 .left))) in
+    let a = c .before .before .before .before .before .before .before .before .before .before .before .before .before .before .before .args in
+    let h = c .before .before .before .before .before .before .before .before .before .header-in .result in
+    let w = reads (a .f .now) _ h (c .before .before .before .before .before .before .before .before .before .header-in .ensures) refl (front (a .f .now) (sym (c .before .before .before .before .before .before .before .before .before .before .before .front-ok .ensures) ∙ not-false _ (c .before .before .before .before .before .before .before .before .before .before .if2 .left))) in
     let l = head-length (h .«burst_number») (h .taken .0) (h .kept .0) (h .dropped) in
-    (omega (arith, w .closing, w .total, w .size), omega (arith, w .known, w .most, w .counts), omega (arith, w .known, w .most, w .counts, l, c .before .before .before .before .put-head .ensures .0, c .before .before .before .before .put-head .kept .0, c .before .before .before .before .before .before .before .before .before .before .before .before .before .before .before .before .pre))
+    (omega (arith, w .closing, w .total, w .size), omega (arith, w .known, w .most, w .counts), omega (arith, w .known, w .most, w .counts, l, c .before .before .before .put-head .ensures .0, c .before .before .before .put-head .kept .0, c .before .before .before .before .before .before .before .before .before .before .before .before .before .before .before .pre))
 
 returns-3 : tie.Need-returns-3
 returns-3 c =
-    let a = c .before .before .before .before .before .before .before .before .before .before .before .before .before .before .before .before .before .before .before .args in
-    let h = c .before .before .before .before .before .before .before .before .before .before .before .before .before .header-in .result in
-    let t = sym (c .before .before .before .before .before .before .before .before .before .before .before .before .before .before .before .front-ok .ensures) ∙ not-false _ (c .before .before .before .before .before .before .before .before .before .before .before .before .before .before .if2 .left) in
-    let w = reads (a .f .now) _ h (c .before .before .before .before .before .before .before .before .before .before .before .before .before .header-in .ensures) refl (front (a .f .now) t) in
-    let e = front-listing (a .f .now) (c .before .before .before .before .before .before .before .before .before .before .before .before .before .before .before .before .if1 .left) t in
-    let p = front-put (a .f .now) h (c .before .before .before .before .before .before .before .before .before .before .before .before .before .header-in .ensures) (a .out .now) _ _ _ _ (c .before .before .before .before .before .before .before .before .before .before .before .before .before .before .before .before .before .before .before .pre) (omega (arith, w .known, w .most, w .counts)) (c .before .before .before .before .before .before .before .put-head .ensures .0) (c .before .before .before .before .before .before .before .put-head .ensures .1)
+    let a = c .before .before .before .before .before .before .before .before .before .before .before .before .before .before .before .before .before .before .args in
+    let h = c .before .before .before .before .before .before .before .before .before .before .before .before .header-in .result in
+    let t = sym (c .before .before .before .before .before .before .before .before .before .before .before .before .before .before .front-ok .ensures) ∙ not-false _ (c .before .before .before .before .before .before .before .before .before .before .before .before .before .if2 .left) in
+    let w = reads (a .f .now) _ h (c .before .before .before .before .before .before .before .before .before .before .before .before .header-in .ensures) refl (front (a .f .now) t) in
+    let e = front-listing (a .f .now) (c .before .before .before .before .before .before .before .before .before .before .before .before .before .before .before .if1 .left) t in
+    let p = front-put (a .f .now) h (c .before .before .before .before .before .before .before .before .before .before .before .before .header-in .ensures) (a .out .now) _ _ _ _ (c .before .before .before .before .before .before .before .before .before .before .before .before .before .before .before .before .before .before .pre) (omega (arith, w .known, w .most, w .counts)) (c .before .before .before .before .before .before .put-head .ensures .0) (c .before .before .before .before .before .before .put-head .ensures .1)
     (c .before .before .put-shots .ensures .0) (c .before .before .put-shots .ensures .1) in
     (p .0 ∙ ap length e, p .1 ∙ ap (putBytes (a .out .now) 0) e)
 
@@ -65,7 +65,6 @@ put-listing-spec =
     (λ c. search needs)
     (λ c. search needs)
     (λ c κs. search needs)
-    (λ c. search needs)
     (λ c. search needs)
     put-shots-requires
     (λ c. search needs)

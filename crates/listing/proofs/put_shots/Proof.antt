@@ -15,13 +15,13 @@ use Rattle.listing.proofs.put_shots.Statement.{statement}
 use Rattle.listing.proofs.put_shots.Tie as tie
 
 abbrev Inv-loop : tie.InvT-loop
-Inv-loop f count start out₀ from left₀ position₀ at₀ out left position at =
-    (left ≤ count) × (position + 12 * left ≤ length f) × (at + 78 * left ≤ length out) × (length out ≡ length out₀)
-    × (putBytes out at (shotLines (entriesAt left position f)) ≡ putBytes out₀ from (shotLines (entriesAt count start f)))
-    × (at + length (shotLines (entriesAt left position f)) ≡ from + length (shotLines (entriesAt count start f)))
+Inv-loop f start out₀ from left₀ position₀ at₀ out left position at =
+    (left ≤ left₀) × (position + 12 * left ≤ length f) × (at + 78 * left ≤ length out) × (length out ≡ length out₀)
+    × (putBytes out at (shotLines (entriesAt left position f)) ≡ putBytes out₀ from (shotLines (entriesAt left₀ start f)))
+    × (at + length (shotLines (entriesAt left position f)) ≡ from + length (shotLines (entriesAt left₀ start f)))
 
 abbrev μ-loop : tie.MeasureT-loop
-μ-loop f count start out₀ from left₀ position₀ at₀ out left position at = left
+μ-loop f start out₀ from left₀ position₀ at₀ out left position at = left
 
 loop-holds : tie.Need-loop-holds Inv-loop μ-loop
 loop-holds c = (omega arith, omega arith, omega arith, refl, refl, refl)
@@ -29,7 +29,7 @@ loop-holds c = (omega arith, omega arith, omega arith, refl, refl, refl)
 loop-again : tie.Need-loop-again Inv-loop μ-loop
 loop-again c =
     let l = c .before .before .before .before .before .before .before .before .before .loop in
-    let f = c .before .before .before .before .before .before .before .before .before .before .before .before .args .f .now in
+    let f = c .before .before .before .before .before .before .before .before .before .before .before .before .before .args .f .now in
     let p = c .before .before .put-shot in
     let e : l .left ≡ suc (l .left - 1) = omega arith in
     let h : l .at + 78 * suc (l .left - 1) ≤ length (l .out) = omega arith in
@@ -48,7 +48,7 @@ loop-again c =
 returns : tie.Need-returns Inv-loop μ-loop
 returns c =
     let l = c .before .loop in
-    let f = c .before .before .before .before .args .f .now in
+    let f = c .before .before .before .before .before .args .f .now in
     let e : l .left ≡ 0 = omega arith in
     let z : shotLines (entriesAt (l .left) (l .position) f) ≡ shotLines (entriesAt 0 (l .position) f) = ap (λ (n : ℕ). shotLines (entriesAt n (l .position) f)) e in
     let y = z ∙ no-shots f 0 (l .position) in (
@@ -62,6 +62,7 @@ put-shots-spec =
     (tie.spec
     Inv-loop
     μ-loop
+    (λ c. omega arith)
     loop-holds
     (λ c κs. search needs)
     (λ c. search needs)
