@@ -31,7 +31,7 @@ enum burst_refusal {
     BURST_DONE = 0,
     BURST_KEY_LENGTH = 1,       /* the key is not 16 bytes */
     BURST_SECRET_LENGTH = 3,    /* stamp or site mark is not 16 bytes */
-    BURST_OUTPUT_TOO_SHORT = 5, /* out or info is too short */
+    BURST_OUTPUT_TOO_SHORT = 5, /* out, info or text is too short */
     BURST_TAG_DIFFERS = 7,      /* mark 0: the file or the key is another; else the record of that shot was changed */
     BURST_NOT_SOUND = 8,        /* the burst is closed, or its begin was refused */
     BURST_FULL = 9,             /* 60 shots were taken */
@@ -50,7 +50,7 @@ enum {
     BURST_MIN_FILE_BYTES = 64,
     BURST_CHECK_INFO_BYTES = 30, /* burst number (8), site mark (16), taken (2), kept (2), dropped (2) */
     BURST_FETCH_INFO_BYTES = 22, /* shot number (2), picture length (4), stamp (16) */
-    BURST_LIST_BYTES = 4800,     /* room for every text of burst_list */
+    BURST_LIST_BYTES = 4800,     /* room enough for every text of burst_list; many texts need less */
     BURST_MAX_LISTED_BYTES = 65536,
     BURST_ANSWER_BYTES = 8       /* refusal number (4), then shot number or total (4), 0 for begin and where refused */
 };
@@ -77,22 +77,22 @@ uint32_t burst_check(const uint8_t *key, size_t key_len,
                      uint32_t *mark, uint8_t *info, size_t info_len);
 
 /* Does all of check, then writes the picture of a place, counted from 0, to out. Refusals 1, 12, 7, 13, then 5 for out and for info.
- * Nothing of a picture is written before all tags agree. */
+ * 13 for every place that is not below kept, however large. Nothing of a picture is written before all tags agree. */
 uint32_t burst_fetch(const uint8_t *key, size_t key_len,
-                     const uint8_t *file, size_t file_len, uint16_t place,
+                     const uint8_t *file, size_t file_len, size_t place,
                      uint8_t *out, size_t out_len,
                      uint32_t *mark, uint8_t *info, size_t info_len);
 
 /* Does all of check, then says where in the file the sealed record of a place stands: from file[offset], size bytes, which is the
  * picture's length and 32. Refusals 1, 12, 7, 13; then offset and size are 0. */
 uint32_t burst_record(const uint8_t *key, size_t key_len,
-                      const uint8_t *file, size_t file_len, uint16_t place,
+                      const uint8_t *file, size_t file_len, size_t place,
                       uint32_t *mark, uint32_t *offset, uint32_t *size);
 
 /* Writes the listing of a file, as text, to the front of text and its length to *length: burst number, counts, and a line for each kept
  * picture. It needs no key and tests the front only, so a damaged seal does not matter. A file above 65,536 bytes gives
  * "front too long", one whose front breaks a rule "front 12". Every line ends with a newline; there is no 0 byte at the end. Refusal 5
- * where text_len is below BURST_LIST_BYTES; then *length is 0. */
+ * where the text does not fit, which it always does in BURST_LIST_BYTES; then *length is 0. */
 uint32_t burst_list(const uint8_t *file, size_t file_len,
                     uint8_t *text, size_t text_len, uint32_t *length);
 

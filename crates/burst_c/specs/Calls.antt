@@ -6,6 +6,7 @@ use Prim.Native.Nat.{ℕ}
 use lib.Dec.{eqb, ltb}
 use lib.ListN.{length}
 use Rattle.bytes_le.specs.Bytes.{Bytes, putBytes, le}
+use Rattle.icepole.specs.Sealing.{pick}
 use Rattle.icepole.specs.Answers.{refusal, _when_, unless}
 use Rattle.reader.specs.declared.Checked.{Checked}
 use Rattle.reader.specs.declared.Fetched.{Fetched}
@@ -17,7 +18,11 @@ checkInfoLength = 30
 
 -- burst number (8), site mark (16), taken (2), kept (2), dropped (2)
 abbrev pub checkedBytes : Checked → Bytes
-checkedBytes c = le 8 (c .«burst_number») ++ (c .«site_mark» ++ (le 2 (c .taken) ++ (le 2 (c .kept) ++ le 2 (c .dropped))))
+checkedBytes c = le 8 (c .«burst_number») ++ (c .«site_mark» ++ (le 2 (c .taken .0) ++ (le 2 (c .kept .0) ++ le 2 (c .dropped))))
+
+-- a place in 16 bits. No file has 65,535 pictures, so that a larger place and this one are both not below kept
+abbrev pub placeOf : ℕ → ℕ
+placeOf place = pick (ltb 65535 place) 65535 place
 
 abbrev pub fetchInfoLength : ℕ
 fetchInfoLength = 22

@@ -11,12 +11,15 @@ ghost use Rattle.bytes_le.specs.Bytes.{putBytes};
 ghost use Rattle.reader.specs.Reader.{checkMark, recordNumber, recordOffset, recordBytesIn};
 ghost use Rattle.listing.specs.Listing.{listNumber, listAnswer, listOutput};
 ghost use Rattle.replay.specs.Replay.{listOf, Replayed};
-ghost use Rattle.burst_c.specs.Calls.{checkedBytes, fetchedBytes, checkCallNumber, checkCallInfo, fetchCallNumber, fetchCallOutput, fetchCallInfo};
+ghost use Rattle.burst_c.specs.Calls.{checkedBytes, placeOf, fetchedBytes, checkCallNumber, checkCallInfo, fetchCallNumber, fetchCallOutput, fetchCallInfo};
 
 // Bytes of what check and fetch put into the info.
 const CHECK_INFO: usize = 30;
 
 const FETCH_INFO: usize = 22;
+
+// The largest place that 16 bits hold. No file has so many pictures.
+const LAST_PLACE: usize = 65535;
 
 #[no_mangle]
 pub extern "C" fn burst_replay(
@@ -41,8 +44,8 @@ fn put_checked(c: Checked, info: &mut [u8])
     let site_mark = c.site_mark;
     let i = bytes_le::store_le(info, 0, 8, c.burst_number);
     let j = bytes_le::put_bytes(info, i, &site_mark);
-    let k = bytes_le::store_le(info, j, 2, c.taken as u64);
-    let l = bytes_le::store_le(info, k, 2, c.kept as u64);
+    let k = bytes_le::store_le(info, j, 2, c.taken.0 as u64);
+    let l = bytes_le::store_le(info, k, 2, c.kept.0 as u64);
     bytes_le::store_le(info, l, 2, c.dropped as u64);
 }
 
@@ -65,6 +68,16 @@ pub extern "C" fn burst_check(key: &[u8], file: &[u8], mark: &mut u32, info: &mu
     0
 }
 
+// A place as the reader takes it: a larger one than 16 bits hold becomes the largest, which is not below kept either.
+fn place_of(place: usize) -> Place
+    ensures { λ p. ⌜ p .0 ≡ placeOf place ⌝ }
+{
+    if place > LAST_PLACE {
+        return Place(LAST_PLACE as u16);
+    }
+    Place(place as u16)
+}
+
 fn put_fetched(r: Fetched, info: &mut [u8])
     requires { ⌜ 22 ≤ length (now info) ⌝ }
     ensures { λ _. ⌜ now (info .exit) ≡ putBytes (now (info .entry)) 0 (fetchedBytes r) ⌝ }
@@ -80,7 +93,7 @@ fn put_fetched(r: Fetched, info: &mut [u8])
 pub extern "C" fn burst_fetch(
     key: &[u8],
     file: &[u8],
-    place: u16,
+    place: usize,
     out: &mut [u8],
     mark: &mut u32,
     info: &mut [u8],
@@ -91,15 +104,16 @@ pub extern "C" fn burst_fetch(
         (now (out .exit) ≡ fetchCallOutput (now (key .entry)) (now (file .entry)) place (now (out .entry)) (now (info .entry))) ×
         (now (info .exit) ≡ fetchCallInfo (now (key .entry)) (now (file .entry)) place (now (out .entry)) (now (info .entry))) ⌝ }
 {
+    let at = place_of(place);
     if info.len() < FETCH_INFO {
-        let l = reader::locate(key, file, Place(place));
+        let l = reader::locate(key, file, at);
         *mark = l.mark;
         if l.refusal != 0 {
             return l.refusal;
         }
         return OUTPUT_TOO_SHORT;
     }
-    let r = reader::fetch(key, file, Place(place), out);
+    let r = reader::fetch(key, file, at, out);
     *mark = r.mark;
     if r.refusal != 0 {
         return r.refusal;
@@ -112,7 +126,7 @@ pub extern "C" fn burst_fetch(
 pub extern "C" fn burst_record(
     key: &[u8],
     file: &[u8],
-    place: u16,
+    place: usize,
     mark: &mut u32,
     offset: &mut u32,
     size: &mut u32,
@@ -123,7 +137,7 @@ pub extern "C" fn burst_record(
         (now (offset .exit) ≡ recordOffset (now (key .entry)) (now (file .entry)) place) ×
         (now (size .exit) ≡ length (recordBytesIn (now (key .entry)) (now (file .entry)) place)) ⌝ }
 {
-    let l = reader::locate(key, file, Place(place));
+    let l = reader::locate(key, file, place_of(place));
     *mark = l.mark;
     if l.refusal != 0 {
         *offset = 0;
@@ -139,7 +153,7 @@ pub extern "C" fn burst_record(
 #[no_mangle]
 pub extern "C" fn burst_list(file: &[u8], text: &mut [u8], size: &mut u32) -> u32
     ensures { λ n. ⌜
-        (n ≡ listNumber (now (text .entry))) ×
+        (n ≡ listNumber (now (file .entry)) (now (text .entry))) ×
         (now (text .exit) ≡ listOutput (now (file .entry)) (now (text .entry))) ×
         (now (size .exit) ≡ listAnswer (now (file .entry)) (now (text .entry)) .length) ⌝ }
 {

@@ -6,36 +6,44 @@ use native.Mathlib.Omega.{arith}
 use borrow.Author.Needs.{needs}
 use Rattle.burst.specs.declared.Entry.{Entry}
 use Rattle.reader.specs.Front.{entryAt}
+use Rattle.reader.specs.Reader.{locateAnswer}
 use Rattle.reader.proofs.Answers.{located-number, located-mark, located-found, located-position, record-done}
+use Rattle.burst_c.proofs.Places.{at-located}
 use Rattle.burst_c.proofs.Returned.{none-there, record-size}
 use Rattle.burst_c.proofs.burst_record.Statement.{statement}
 use Rattle.burst_c.proofs.burst_record.Tie as tie
 
+-- locate's answer for the caller's place
+told : (c : tie.After-locate) → c .locate .result ≡ locateAnswer (c .before .before .before .before .args .key .now) (c .before .before .before .before .args .file .now) (c .before .before .before .before .args .place)
+told c =
+    let a = c .before .before .before .before .args in
+    c .locate .ensures ∙ at-located (a .key .now) (a .file .now) (a .place) _ (c .before .place-of .ensures)
+
 returns : tie.Need-returns
 returns c =
-    let a = c .before .before .before .before .before .args in
-    let e = c .before .before .locate .ensures in
+    let a = c .before .before .before .before .before .before .args in
+    let e = told (c .before .before) in
     let n = located-number _ _ _ _ e in
     let p = none-there (a .key .now) (a .file .now) (a .place) (λ z. c .if1 .taken (n ∙ z)) in
     (n, located-mark _ _ _ _ e, p .0, p .1)
 
 entry-at-requires : tie.Need-entry-at-requires
 entry-at-requires c κs =
-    let w = located-found _ _ _ _ (c .before .before .locate .ensures) (c .if1 .left) in
-    let i = located-position _ _ _ _ (c .before .before .locate .ensures) (c .if1 .left) in
+    let w = located-found _ _ _ _ (told (c .before .before)) (c .if1 .left) in
+    let i = located-position _ _ _ _ (told (c .before .before)) (c .if1 .left) in
     omega (arith, w .accepted .front, w .below, i)
 
 add-size : tie.Need-add-size
 add-size c =
-    let w = located-found _ _ _ _ (c .before .before .before .before .locate .ensures) (c .before .before .if1 .left) in
-    let i = located-position _ _ _ _ (c .before .before .before .before .locate .ensures) (c .before .before .if1 .left) in
-    let n = ap (λ (x : Entry). x .length) (c .before .entry-at .ensures ∙ ap (entryAt (c .before .before .before .before .before .before .before .args .file .now)) i) in
+    let w = located-found _ _ _ _ (told (c .before .before .before .before)) (c .before .before .if1 .left) in
+    let i = located-position _ _ _ _ (told (c .before .before .before .before)) (c .before .before .if1 .left) in
+    let n = ap (λ (x : Entry). x .length) (c .before .entry-at .ensures ∙ ap (entryAt (c .before .before .before .before .before .before .before .before .args .file .now)) i) in
     omega (arith, w .range, n)
 
 returns-2 : tie.Need-returns-2
 returns-2 c =
-    let a = c .before .before .before .before .before .before .before .args in
-    let e = c .before .before .before .before .locate .ensures in
+    let a = c .before .before .before .before .before .before .before .before .args in
+    let e = told (c .before .before .before .before) in
     let z = c .before .before .if1 .left in
     let w = located-found _ _ _ _ e z in
     let n = located-number _ _ _ _ e in
@@ -49,4 +57,4 @@ returns-2 c =
 
 pub burst-record-spec : {M : Type 1} → statement M
 burst-record-spec =
-    tie.close (tie.spec (λ c κs. search needs) returns entry-at-requires add-size returns-2)
+    tie.close (tie.spec (λ c κs. search needs) (λ c κs. search needs) returns entry-at-requires add-size returns-2)

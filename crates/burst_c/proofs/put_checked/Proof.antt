@@ -35,7 +35,7 @@ returns : tie.Need-returns
 returns c =
     let a = c .before .before .before .before .before .before .before .before .before .before .before .before .before .before .before .before .before .before .before .before .before .before .before .before .before .before .args in
     let s : length (a .c .«site_mark») ≡ 16 = simp length-map at (c .before .before .before .before .before .before .before .before .before .before .before .before .before .before .before .before .before .before .before .before .before .before .before .before .before .before .good .0 .1 .1 .1 .1 .1 .0 .1 .0 .1) in
-    check-put (a .info .now) _ _ _ _ _ (a .c .«site_mark») _ _ _ _ (a .c .«burst_number») (a .c .taken) (a .c .kept) (a .c .dropped) (c .before .before .before .before .before .before .before .before .before .before .before .before .before .before .before .before .before .before .before .before .before .before .before .before .before .before .pre) s
+    check-put (a .info .now) _ _ _ _ _ (a .c .«site_mark») _ _ _ _ (a .c .«burst_number») (a .c .taken .0) (a .c .kept .0) (a .c .dropped) (c .before .before .before .before .before .before .before .before .before .before .before .before .before .before .before .before .before .before .before .before .before .before .before .before .before .before .pre) s
     (c .before .before .before .before .before .before .before .before .before .before .before .before .before .before .before .before .before .before .before .before .before .before .store-le .ensures .1) (c .before .before .before .before .before .before .before .before .before .before .before .before .before .before .before .before .before .before .before .before .before .before .store-le .ensures .0) (c .before .before .before .before .before .before .before .before .before .before .before .before .before .before .before .before .before .put-bytes .ensures .1) (c .before .before .before .before .before .before .before .before .before .before .before .before .before .before .before .before .before .put-bytes .ensures .0) (c .before .before .before .before .before .before .before .before .before .before .before .before .store-le2 .ensures .1) (c .before .before .before .before .before .before .before .before .before .before .before .before .store-le2 .ensures .0) (c .before .before .before .before .before .before .before .store-le3 .ensures .1) (c .before .before .before .before .before .before .before .store-le3 .ensures .0) (c .before .before .store-le4 .ensures .1)
 
 pub put-checked-spec : {M : Type 1} → statement M

@@ -1,0 +1,61 @@
+-- A place that 16 bits do not hold is answered like the largest that they hold: neither is below kept.
+-- Assumes nothing.
+use mathlib.Core.Bool.{Bool, true, false}
+use mathlib.Core.Path.{_≡_, refl, sym, ap, _∙_}
+use Prim.Native.Nat.{ℕ, zero, suc, _≤_, _<_}
+use native.Mathlib.Omega.{arith}
+use borrow.Author.Tests.{ne-eqb, le-leb, ltb-true}
+use lib.Dec.{eqb, ltb}
+use Rattle.bytes_le.specs.Bytes.{Bytes}
+use Rattle.icepole.specs.Sealing.{pick}
+use Rattle.reader.specs.Front.{keptIn}
+use Rattle.reader.specs.Reader.{checkNumber, recordNumber, locateAnswer, fetchAnswer, fetchOutput}
+use Rattle.reader.proofs.Answers.{accepted, fetch-refused}
+use Rattle.burst_c.specs.Calls.{placeOf}
+
+module _ (key f : Bytes) where
+  -- check's number, else 13
+  far : (place : ℕ) → 65535 ≤ place → (n : ℕ) → checkNumber key f ≡ n → recordNumber key f place ≡ pick (eqb n 0) 13 n
+  unfolding recordNumber
+  far place h zero e =
+      let w = accepted key f e .front in
+      simp (e, le-leb (keptIn f) place (omega (arith, w .known, w .most, w .counts)))
+  far place h (suc n) e = simp (e, ne-eqb (suc n) 0 (λ i. omega arith))
+
+  not-zero : (n : ℕ) → pick (eqb n 0) 13 n ≡ 0 → ⊥
+  not-zero zero h = omega arith
+  not-zero (suc n) h = let z : suc n ≡ 0 = simp (ne-eqb (suc n) 0 (λ i. omega arith)) at h in omega arith
+
+  module _ (place : ℕ) where
+    module _ (h : 65535 < place) where
+      same-number : recordNumber key f place ≡ recordNumber key f 65535
+      same-number = far place (omega arith) (checkNumber key f) refl ∙ sym (far 65535 (omega arith) (checkNumber key f) refl)
+
+      refused : recordNumber key f place ≡ 0 → ⊥
+      refused z = not-zero (checkNumber key f) (sym (far place (omega arith) (checkNumber key f) refl) ∙ z)
+
+      far-located : locateAnswer key f 65535 ≡ locateAnswer key f place
+      unfolding locateAnswer
+      far-located = simp (sym same-number, ne-eqb (recordNumber key f place) 0 refused)
+
+    -- an answer for the place in 16 bits is the answer for the place
+    module _ (q : ℕ) (is : q ≡ placeOf place) where
+      by : {A : Type 0} (answer : ℕ → A) (b : Bool) → ltb 65535 place ≡ b → (65535 < place → answer 65535 ≡ answer place) → answer (pick b 65535 place) ≡ answer place
+      by answer true t h = h (ltb-true _ _ t)
+      by answer false t h = refl
+
+      pub at-located : locateAnswer key f q ≡ locateAnswer key f place
+      at-located = ap (locateAnswer key f) is ∙ by (locateAnswer key f) (ltb 65535 place) refl far-located
+
+      module _ (out : Bytes) where
+        pub at-fetched : fetchAnswer key f q out ≡ fetchAnswer key f place out
+        at-fetched =
+            ap (λ (i : ℕ). fetchAnswer key f i out) is
+            ∙ by (λ (i : ℕ). fetchAnswer key f i out) (ltb 65535 place) refl
+            (λ h. sym (fetch-refused key f 65535 out _ _ (same-number h) refl (refused h) .0) ∙ fetch-refused key f place out _ _ refl refl (refused h) .0)
+
+        pub at-output : fetchOutput key f q out ≡ fetchOutput key f place out
+        at-output =
+            ap (λ (i : ℕ). fetchOutput key f i out) is
+            ∙ by (λ (i : ℕ). fetchOutput key f i out) (ltb 65535 place) refl
+            (λ h. sym (fetch-refused key f 65535 out _ _ (same-number h) refl (refused h) .1) ∙ fetch-refused key f place out _ _ refl refl (refused h) .1)
