@@ -3,7 +3,6 @@
 use mathlib.Core.Bool.{Bool, true, false}
 use mathlib.Core.List.{List, [], _∷_, _++_, append-assoc, append-nil}
 use mathlib.Core.Logic.{⊎-elim}
-use mathlib.Core.Option.{none}
 use mathlib.Core.Path.{_≡_, refl, sym, ap, ap₂, subst, _∙_}
 use Prim.Native.Nat.{ℕ, zero, suc, _+_, _-_, _*_, _/_, _%_, _^_, _≤_, _<_}
 use native.Mathlib.Omega.{arith}
@@ -27,8 +26,9 @@ use Rattle.burst.proofs.Rules.{and-true, index-used}
 use Rattle.burst.proofs.Numbers.{keep-0, drop-0, close-0, begin-0}
 use Rattle.burst.proofs.Parts.{part-sealed, length-mark, length-body, mark-bytes, body-bytes}
 use Rattle.reader.specs.declared.Checked.{Checked}
+use Rattle.reader.specs.declared.Verdict.the-variants.{Agree}
 use Rattle.reader.specs.Front.{editionIn, nameIn, allZero, restRules, takenIn, keptIn, droppedIn, indexOffsetIn, entryAt, entriesAt}
-use Rattle.reader.specs.Reader.{closingPart, recordPart, recordParts, agrees, markIn, bodyIn, firstDiffering, checkNumber, checkAnswer}
+use Rattle.reader.specs.Reader.{closingPart, recordPart, recordParts, agrees, markIn, bodyIn, verdictOn, checkNumber, checkAnswer}
 use Rattle.reader.proofs.Rules.{Front, entries-obey, entries-end}
 use Rattle.reader.proofs.Parts.{first-agrees}
 use Rattle.reader.proofs.Answers.{Accepted, accepted as obeyed}
@@ -185,7 +185,7 @@ module _ (key f : Bytes) (fb : AllBytes f) (taken end : ℕ) (he : end ≤ lengt
       record { size = ap suc (b .size); kept = b .kept; valid = b .valid; ends = b .ends; indexed = b .indexed; recorded = b .recorded; bytes = b .bytes }
 
   abbrev Opens : ℕ → ℕ → Type 0
-  Opens j pos = firstDiffering key f (recordParts j pos f) ≡ none
+  Opens j pos = verdictOn key f (recordParts j pos f) ≡ Agree
 
   opens-next : (j pos : ℕ) → Opens (suc j) pos → (agrees key f (recordPart f pos) ≡ true) × Opens j (pos + 12)
   unfolding recordParts
@@ -495,7 +495,7 @@ reads key f kb fb h =
     let c = g .checked in
     let fp = fine ed (w .list) (w .filed .reached) in
     record {
-      counts = ap (λ (x : Checked). x .taken) c ∙ g .counts ∙ sym (ap₂ (λ (a b : ℕ). a + b) (ap (λ (x : Checked). x .kept) c) (ap (λ (x : Checked). x .dropped) c));
+      counts = ap (λ (x : Checked). x .taken .0) c ∙ g .counts ∙ sym (ap₂ (λ (a b : ℕ). a + b) (ap (λ (x : Checked). x .kept .0) c) (ap (λ (x : Checked). x .dropped) c));
       file =
           ap (λ (x : Edition). fileOf x (burstIn key f)) (g .edition)
           ∙ same-file ed (burstIn key f) p (sym (fp .key ∙ w .keyed))

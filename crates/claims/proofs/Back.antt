@@ -2,7 +2,7 @@
 -- Assumes nothing.
 use mathlib.Core.Bool.{true}
 use mathlib.Core.List.{List, [], _∷_, _++_, append-nil}
-use mathlib.Core.Option.{some, none, Option·some-injective}
+use mathlib.Core.Option.{some, Option·some-injective}
 use mathlib.Core.Path.{_≡_, refl, sym, ap, ap₂, subst, _∙_}
 use Prim.Native.Nat.{ℕ, zero, suc, _+_, _-_, _*_, _^_, _≤_, _<_}
 use native.Mathlib.Omega.{arith}
@@ -24,9 +24,10 @@ use Rattle.burst.proofs.Rows.{known, written-among}
 use Rattle.burst.proofs.Puts.{length-header}
 use Rattle.burst.proofs.Parts.{part-agrees, part-mark}
 use Rattle.reader.specs.declared.Checked.{Checked}
+use Rattle.reader.specs.declared.Verdict.the-variants.{Agree}
 use Rattle.reader.specs.declared.Fetched.{Fetched}
 use Rattle.reader.specs.Front.{editionIn, nameIn, headerIn, takenIn, keptIn, indexOffsetIn, entryAt, entriesAt, positionOf, frontRules}
-use Rattle.reader.specs.Reader.{closingPart, recordParts, agrees, markIn, firstDiffering, checkNumber, checkMark, checkAnswer, recordNumber, recordOffset, recordBytesIn, notChecked, notFetched, fetchNumber, fetchAnswer, fetchOutput}
+use Rattle.reader.specs.Reader.{closingPart, recordParts, agrees, markIn, verdictOn, checkNumber, checkMark, checkAnswer, recordNumber, recordOffset, recordBytesIn, notChecked, notFetched, fetchNumber, fetchAnswer, fetchOutput}
 use Rattle.reader.proofs.Rules.{front-is, front-at}
 use Rattle.reader.proofs.Answers.{check-not, check-zero, check-0, Found, found, record-zero, record-refused, record-done, fetch-0, fetch-not, fetch-refused}
 use Rattle.trace.specs.Agreement.{editionFor}
@@ -138,15 +139,15 @@ module _ (ed : Edition) (known-ed : Known ed) (p : Plain) (valid : Valid (p .sho
             ∙ part-mark ed k n 0 m (hd ++ ix) [] site16,
       )
 
-  records-open : firstDiffering (p .key) f (recordParts (keptIn f) (indexOffsetIn f) f) ≡ none
+  records-open : verdictOn (p .key) f (recordParts (keptIn f) (indexOffsetIn f) f) ≡ Agree
   records-open =
-      ap₂ (λ (k i : ℕ). firstDiffering (p .key) f (recordParts k i f)) (headed .kept) (headed .index)
+      ap₂ (λ (k i : ℕ). verdictOn (p .key) f (recordParts k i f)) (headed .kept) (headed .index)
       ∙ records-agree f (p .key) (length xs) u few (let c = bound in omega arith) xs 1 (ed .header) u cl (ix ++ cl) valid (omega arith) refl indexed recorded
 
   accepted : checkNumber (p .key) f ≡ 0
   accepted = check-zero (p .key) f key16 front-holds (closing-opens .0) records-open
 
-  checked : checkAnswer (p .key) f ≡ record { refusal = 0; mark = 0; «burst_number» = p .identity .name .«burst_number»; «site_mark» = p .identity .siteMark; taken = length xs; kept = pictures xs; dropped = gaps xs }
+  checked : checkAnswer (p .key) f ≡ record { refusal = 0; mark = 0; «burst_number» = p .identity .name .«burst_number»; «site_mark» = p .identity .siteMark; taken = record { 0 = length xs }; kept = record { 0 = pictures xs }; dropped = gaps xs }
   checked =
       sym (check-0 (p .key) f key16 front-holds (closing-opens .0) records-open (headerIn f) refl (markIn (p .key) f (closingPart f)) refl)
       ∙ cc (ap (λ (n : Name). n .«burst_number») (headed .named), headed .taken, headed .kept, headed .dropped, closing-opens .1)
@@ -283,7 +284,7 @@ module _ (ed : Edition) (known-ed : Known ed) (p : Plain) (valid : Valid (p .sho
   all-read : readShots (p .key) (fileOf ed p) ≡ p .shots
   unfolding readShots
   all-read =
-      ap (λ (c : Checked). readFrom (p .key) (fileOf ed p) (c .taken) 1 0) (checked ed known-ed p valid most key16 site16 fits)
+      ap (λ (c : Checked). readFrom (p .key) (fileOf ed p) (c .taken .0) 1 0) (checked ed known-ed p valid most key16 site16 fits)
       ∙ read (p .key) (fileOf ed p) (p .shots) 1 (ed .header) 0 valid all-given
 
   pub given-back : GivenBack ed (p .key) (fileOf ed p) p

@@ -2,7 +2,7 @@
 -- Assumes nothing.
 use mathlib.Core.Bool.{true}
 use mathlib.Core.List.{List, [], _∷_, _++_, append-assoc}
-use mathlib.Core.Option.{some, none, Option·some-injective}
+use mathlib.Core.Option.{some, Option·some-injective}
 use mathlib.Core.Path.{_≡_, refl, sym, ap, ap₂, subst, _∙_}
 use Prim.Native.Nat.{ℕ, zero, suc, _+_, _-_, _*_, _^_, _≤_, _<_}
 use native.Mathlib.Omega.{arith}
@@ -21,7 +21,8 @@ use Rattle.trace.specs.Plain.{Shot, kept, gap, pictures, usedBy, records, index
 use Rattle.burst.proofs.Puts.{length-header}
 use Rattle.burst.proofs.Parts.{part-agrees, part-mark, part-body}
 use Rattle.reader.specs.Front.{editionIn, nameIn, allZero, restRules, editionNumberIn, takenIn, keptIn, droppedIn, pictureOffsetIn, indexOffsetIn, closingOffsetIn, totalIn, entryAt, entriesAt}
-use Rattle.reader.specs.Reader.{Part, recordPart, recordParts, agrees, markIn, bodyIn, sealedIn, firstDiffering}
+use Rattle.reader.specs.declared.Verdict.the-variants.{Agree}
+use Rattle.reader.specs.Reader.{Part, recordPart, recordParts, agrees, markIn, bodyIn, sealedIn, verdictOn}
 use Rattle.reader.proofs.Parts.{parts-end, parts-next}
 use Rattle.reader.proofs.Fields.{entry-same}
 use Rattle.trace.proofs.Shots.{Valid, entries, used-least, length-record}
@@ -119,7 +120,7 @@ module _ (f key : Bytes) (taken end : ℕ) (ht : taken ≤ maxEntries) (he : end
       (d₃, ap (λ (k : ℕ). drop k f) (sym q) ∙ sym (drop-drop (length rb) at f) ∙ ap (drop (length rb)) d₃ ∙ drop-at rb rs (length rb) refl)
 
   pub records-agree : (xs : List Shot) (n at pos : ℕ) (rest rest₂ : Bytes) → Valid xs → n + length xs ≤ taken + 1 → end ≡ usedBy at xs
-      → drop pos f ≡ index n at xs ++ rest → drop at f ≡ records (editionIn f) key (nameIn f) n at xs ++ rest₂ → firstDiffering key f (recordParts (pictures xs) pos f) ≡ none
+      → drop pos f ≡ index n at xs ++ rest → drop at f ≡ records (editionIn f) key (nameIn f) n at xs ++ rest₂ → verdictOn key f (recordParts (pictures xs) pos f) ≡ Agree
   records-agree [] n at pos rest rest₂ v g e d d₂ = parts-end key f pos
   records-agree (kept s p ∷ xs) n at pos rest rest₂ v g e d d₂ =
       let w = first-entry s p xs n at pos rest v g e d in

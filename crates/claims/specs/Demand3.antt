@@ -118,7 +118,7 @@ module _ (key f : Bytes) where
       (gap ∷ readFrom left (n + 1) place)
 
   unfoldable pub readShots : List Shot
-  readShots = readFrom (checkAnswer key f .taken) 1 0
+  readShots = readFrom (checkAnswer key f .taken .0) 1 0
 
 pub record GivenBack (e : Edition) (key f : Bytes) (p : Plain) : Type 0 where
   -- the file tells its edition
@@ -128,8 +128,8 @@ pub record GivenBack (e : Edition) (key f : Bytes) (p : Plain) : Type 0 where
     mark = 0;
     «burst_number» = p .identity .name .«burst_number»;
     «site_mark» = p .identity .siteMark;
-    taken = length (p .shots);
-    kept = pictures (p .shots);
+    taken = record { 0 = length (p .shots) };
+    kept = record { 0 = pictures (p .shots) };
     dropped = gaps (p .shots);
   }
   pub counts : length (p .shots) ≡ pictures (p .shots) + gaps (p .shots)
@@ -162,7 +162,7 @@ burstIn key f = record {
 }
 
 pub record ReadBack (key f : Bytes) : Type 0 where
-  pub counts : checkAnswer key f .taken ≡ checkAnswer key f .kept + checkAnswer key f .dropped
+  pub counts : checkAnswer key f .taken .0 ≡ checkAnswer key f .kept .0 + checkAnswer key f .dropped
   pub file : fileOf (editionIn f) (burstIn key f) ≡ f
 
 abbrev pub Reads : Type 0

@@ -54,7 +54,7 @@ pub struct Fetched {
 }
 
 // Whether the tags of some sealed parts agree, or the first shot whose tag differs, 0 for the closing seal.
-enum Verdict {
+pub enum Verdict {
     Agree,
     Differs(Shot),
 }
