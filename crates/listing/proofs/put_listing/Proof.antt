@@ -15,13 +15,13 @@ use Rattle.listing.proofs.put_listing.Tie as tie
 returns : tie.Need-returns
 returns c =
     let a = c .before .before .before .before .before .before .before .before .args in
-    let e = long-listing (a .f .now) (c .before .before .before .before .before .if1 .taken) in
+    let e = long-listing (a .f .now) (omega (arith, c .before .before .before .before .before .if1)) in
     (c .before .before .put-bytes .ensures .0 ∙ zero-add _ ∙ ap length e, c .before .before .put-bytes .ensures .1 ∙ ap (putBytes (a .out .now) 0) e)
 
 returns-2 : tie.Need-returns-2
 returns-2 c =
     let a = c .before .before .before .before .before .before .before .before .before .before .args in
-    let e = broken-listing (a .f .now) (c .before .before .before .before .before .before .before .if1 .left) (sym (c .before .before .before .before .before .before .front-ok .ensures) ∙ not-true _ (c .before .before .before .before .before .if2 .taken)) in
+    let e = broken-listing (a .f .now) (omega (arith, c .before .before .before .before .before .before .before .if1)) (sym (c .before .before .before .before .before .before .front-ok .ensures) ∙ not-true _ (c .before .before .before .before .before .if2 .taken)) in
     (c .before .before .put-bytes2 .ensures .0 ∙ zero-add _ ∙ ap length e, c .before .before .put-bytes2 .ensures .1 ∙ ap (putBytes (a .out .now) 0) e)
 
 header-in-requires : tie.Need-header-in-requires
@@ -42,7 +42,7 @@ returns-3 c =
     let h = c .before .before .before .before .before .before .before .before .before .before .before .before .header-in .result in
     let t = sym (c .before .before .before .before .before .before .before .before .before .before .before .before .before .before .front-ok .ensures) ∙ not-false _ (c .before .before .before .before .before .before .before .before .before .before .before .before .before .if2 .left) in
     let w = reads (a .f .now) _ h (c .before .before .before .before .before .before .before .before .before .before .before .before .header-in .ensures) refl (front (a .f .now) t) in
-    let e = front-listing (a .f .now) (c .before .before .before .before .before .before .before .before .before .before .before .before .before .before .before .if1 .left) t in
+    let e = front-listing (a .f .now) (omega (arith, c .before .before .before .before .before .before .before .before .before .before .before .before .before .before .before .if1)) t in
     let p = front-put (a .f .now) h (c .before .before .before .before .before .before .before .before .before .before .before .before .header-in .ensures) (a .out .now) _ _ _ _ (c .before .before .before .before .before .before .before .before .before .before .before .before .before .before .before .before .before .before .pre) (omega (arith, w .known, w .most, w .counts)) (c .before .before .before .before .before .before .put-head .ensures .0) (c .before .before .before .before .before .before .put-head .ensures .1)
     (c .before .before .put-shots .ensures .0) (c .before .before .put-shots .ensures .1) in
     (p .0 ∙ ap length e, p .1 ∙ ap (putBytes (a .out .now) 0) e)

@@ -36,7 +36,7 @@ returns-3 : tie.Need-returns-3
 returns-3 c =
     c .not-checked3 .ensures
     ∙ check-closing (c .before .before .before .before .before .before .before .before .before .before .before .before .args .key .now) (c .before .before .before .before .before .before .before .before .before .before .before .before .args .f .now) (omega (arith, c .before .before .before .before .before .before .before .before .before .if1)) (sym (c .before .before .before .before .before .before .before .before .front-ok .ensures) ∙ not-false _ (c .before .before .before .before .before .before .before .if2 .left))
-    (tag-differs _ _ _ _ (c .before .before .before .verify-closing .ensures) (c .before .if3 .taken))
+    (tag-differs _ _ _ _ (c .before .before .before .verify-closing .ensures) (λ z. omega (arith, z, c .before .if3)))
 
 verify-records-requires : tie.Need-verify-records-requires
 verify-records-requires c κs =
