@@ -20,10 +20,6 @@ checkInfoLength = 30
 abbrev pub checkedBytes : Checked → Bytes
 checkedBytes c = le 8 (c .«burst_number») ++ (c .«site_mark» ++ (le 2 (c .taken .0) ++ (le 2 (c .kept .0) ++ le 2 (c .dropped))))
 
--- a place in 16 bits. No file has 65,535 pictures, so that a larger place and this one are both not below kept
-abbrev pub placeOf : ℕ → ℕ
-placeOf place = pick (ltb 65535 place) 65535 place
-
 abbrev pub fetchInfoLength : ℕ
 fetchInfoLength = 22
 
@@ -42,6 +38,10 @@ module _ (key f info : Bytes) where
 
   unfoldable pub checkCallInfo : Bytes
   checkCallInfo = unless checkCallNumber info (putBytes info 0 (checkedBytes (checkAnswer key f)))
+
+-- ---- a place in 16 bits: what they do not hold becomes 65,535. No file has so many pictures, so that both are not below kept
+abbrev pub placeOf : ℕ → ℕ
+placeOf place = pick (ltb 65535 place) 65535 place
 
 -- ---- check's numbers and 13, then 5 for the info, then what is left of fetch's: 5 for the output
 module _ (key f : Bytes) (place : ℕ) (out info : Bytes) where

@@ -132,7 +132,7 @@ fn put_listing(f: &[u8], out: &mut [u8]) -> usize
     put_shots(f, kept, index as usize, out, from)
 }
 
-// The listing of a file.
+// The listing of a file. The text is made in an array that every text has room in.
 pub fn list_front(f: &[u8], out: &mut [u8]) -> Listed
     ensures { λ r. ⌜ (r ≡ listAnswer (now (f .entry)) (now (out .entry))) × (now (out .exit) ≡ listOutput (now (f .entry)) (now (out .entry))) ⌝ }
 {

@@ -100,6 +100,7 @@ notFetched num mark = record { refusal = num; mark = mark; shot = record { 0 = 0
 
 -- ---- check
 module _ (key f : Bytes) where
+  -- the verdict's number is 7 where a tag differs
   unfoldable pub checkNumber : ℕ
   checkNumber =
       refusal
