@@ -41,6 +41,13 @@ enum burst_refusal {
     BURST_NO_SUCH_PLACE = 13    /* the place is not below the count of kept pictures */
 };
 
+/* The bytes of a script that are calls. */
+enum burst_call {
+    BURST_CALL_DROP = 0,
+    BURST_CALL_CLOSE = 1,
+    BURST_CALL_KEEP = 2
+};
+
 enum {
     BURST_KEY_BYTES = 16,
     BURST_SITE_MARK_BYTES = 16,
@@ -57,11 +64,13 @@ enum {
 
 /* Performs a begin and then the calls of a script on a buffer, and writes one answer for each, begin's first. Returns the count of
  * answers written. A script is a run of calls:
- *   0                                                             drop
- *   1                                                             close
- *   2, stamp length (1), picture length (4), stamp, picture       keep (any byte above 1 is read as 2)
- * A keep that is cut by the script's end ends the script. A call is performed only if its answer has room: at most
- * answers_len / 8 - 1 calls. With answers_len below 8 nothing is done, and the result is 0.
+ *   BURST_CALL_DROP
+ *   BURST_CALL_CLOSE
+ *   BURST_CALL_KEEP, stamp length (1), picture length (4), stamp, picture
+ * Any other byte ends the script, and so does a keep that is cut by the script's end. A call is performed only if its answer has room:
+ * at most answers_len / 8 - 1 calls. With answers_len below 8 nothing is done, and the result is 0.
+ * *whole is 1 where the whole script was performed, so that nothing of it is left behind the last call, and else 0: look at it, since a
+ * close that was not performed leaves no file. Refused calls count as performed, begin's too. Where nothing is done, *whole is 0.
  * The numbers in the answers: begin 1, 3, 11; keep 8, 3, 9, 10, 11; drop 8, 9; close 8, 11; the first that holds, in this order. A
  * refused call leaves the buffer as it was. After a close that is answered 0, the first bytes of the buffer, as many as its total
  * says, are the burst's file. */
@@ -69,7 +78,7 @@ size_t burst_replay(const uint8_t *key, size_t key_len, uint64_t burst_number,
                     const uint8_t *site_mark, size_t site_mark_len,
                     const uint8_t *script, size_t script_len,
                     uint8_t *buffer, size_t buffer_len,
-                    uint8_t *answers, size_t answers_len);
+                    uint8_t *answers, size_t answers_len, uint32_t *whole);
 
 /* Checks a whole file: front, closing seal, then the records in order. Refusals 1, 12, 7, then 5 for info. */
 uint32_t burst_check(const uint8_t *key, size_t key_len,

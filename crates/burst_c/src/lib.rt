@@ -8,6 +8,7 @@ ghost use mathlib.Core.Path.{_≡_};
 ghost use Prim.Native.Nat.{_≤_};
 ghost use lib.ListN.{length};
 ghost use Rattle.bytes_le.specs.Bytes.{putBytes};
+ghost use Rattle.icepole.specs.Sealing.{pick};
 ghost use Rattle.reader.specs.Reader.{checkMark, recordNumber, recordOffset, recordBytesIn};
 ghost use Rattle.listing.specs.Listing.{listNumber, listAnswer, listOutput};
 ghost use Rattle.replay.specs.Replay.{listOf, Replayed};
@@ -29,12 +30,20 @@ pub extern "C" fn burst_replay(
     script: &[u8],
     buffer: &mut [u8],
     answers: &mut [u8],
+    whole: &mut u32,
 ) -> usize
     ensures { λ n. ⌜ Replayed
         (listOf (now (key .entry)) (record { name = record { «burst_number» = «burst_number» }; siteMark = now («site_mark» .entry) }) (length (now (buffer .entry))) (length (now (answers .entry))) (now (script .entry)))
-        (now (answers .entry)) (now (answers .exit)) (now (buffer .entry)) (now (buffer .exit)) n ⌝ }
+        (now (answers .entry)) (now (answers .exit)) (now (buffer .entry)) (now (buffer .exit)) n ×
+        (now (whole .exit) ≡ pick (wholeScript (length (now (answers .entry))) (now (script .entry))) 1 0) ⌝ }
 {
-    replay::replay(key, burst_number, site_mark, script, buffer, answers)
+    let p = replay::replay(key, burst_number, site_mark, script, buffer, answers);
+    if !p.whole {
+        *whole = 0;
+        return p.count;
+    }
+    *whole = 1;
+    p.count
 }
 
 fn put_checked(c: Checked, info: &mut [u8])

@@ -22,7 +22,7 @@ use Rattle.trace.specs.Plain.{byValue, Call, keepShot, dropShot, closeBurst, An
 use Rattle.burst.specs.Recorder.{keepAnswer, keepBuffer, dropAnswer, closeAnswer, closeBuffer}
 use Rattle.trace.specs.Trace.{nextRecorder, nextBuffer, answerTo, answersFrom, bufferFrom}
 use Rattle.replay.specs.declared.Step.{Step}
-use Rattle.replay.specs.Replay.{stampLength, pictureLength, keepLength, firstCall, following, scriptCalls, answerBytes, answersBytes, stepOf, stepBuffer}
+use Rattle.replay.specs.Replay.{stampLength, pictureLength, keepLength, keepIn, firstCall, following, scriptCalls, leaving, scriptRest, answerBytes, answersBytes, stepOf, stepBuffer}
 
 -- a number of a script's part
 pub part-number : (n i j : ℕ) (s : Bytes) → leAt n (drop i s) j ≡ leAt n s (i + j)
@@ -44,19 +44,26 @@ module _ (s : Bytes) where
     unfolding firstCall
     first-close h = simp (ne-eqb (length s) 0 hs, h)
 
-    module _ (h₀ : leAt 1 s 0 ≡ 0 → ⊥) (h₁ : leAt 1 s 0 ≡ 1 → ⊥) where
+    pub first-other : (leAt 1 s 0 ≡ 0 → ⊥) → (leAt 1 s 0 ≡ 1 → ⊥) → (leAt 1 s 0 ≡ 2 → ⊥) → firstCall s ≡ none
+    unfolding firstCall
+    first-other h₀ h₁ h₂ = simp (ne-eqb (length s) 0 hs, ne-eqb (leAt 1 s 0) 0 h₀, ne-eqb (leAt 1 s 0) 1 h₁, ne-eqb (leAt 1 s 0) 2 h₂)
+
+    module _ (h₂ : leAt 1 s 0 ≡ 2) where
       pub first-cut : length s < keepLength s → firstCall s ≡ none
       unfolding firstCall
-      first-cut h = simp (ne-eqb (length s) 0 hs, ne-eqb (leAt 1 s 0) 0 h₀, ne-eqb (leAt 1 s 0) 1 h₁, lt-ltb (length s) (keepLength s) h)
+      first-cut h = simp (ne-eqb (length s) 0 hs, h₂, lt-ltb (length s) (keepLength s) h)
 
-      pub first-keep : keepLength s ≤ length s
-          → firstCall s ≡ some (keepShot (take (stampLength s) (drop 6 s)) (take (pictureLength s) (drop (6 + stampLength s) s)), keepLength s)
+      pub first-keep : keepLength s ≤ length s → firstCall s ≡ some (keepIn s, keepLength s)
       unfolding firstCall
-      first-keep h = simp (ne-eqb (length s) 0 hs, ne-eqb (leAt 1 s 0) 0 h₀, ne-eqb (leAt 1 s 0) 1 h₁, le-ltb (length s) (keepLength s) h)
+      first-keep h = simp (ne-eqb (length s) 0 hs, h₂, le-ltb (length s) (keepLength s) h)
 
 not-none : (b : Bool) (o : Option (Call × ℕ)) (x : Call × ℕ) → pick b none o ≡ some x → (b ≡ false) × (o ≡ some x)
 not-none true o x h = let z : _≡_ {A = ℕ} 0 1 = cc in absurd (omega arith)
 not-none false o x h = (refl, h)
+
+or-none : (b : Bool) (o : Option (Call × ℕ)) (x : Call × ℕ) → pick b o none ≡ some x → o ≡ some x
+or-none true o x h = h
+or-none false o x h = let z : _≡_ {A = ℕ} 0 1 = cc in absurd (omega arith)
 
 this-or : (b : Bool) (y : Call × ℕ) (o : Option (Call × ℕ)) (x : Call × ℕ) → pick b (some y) o ≡ some x → (y ≡ x) ⊎ (o ≡ some x)
 this-or true y o x h = inl (Option·some-injective _ _ h)
@@ -68,22 +75,25 @@ unfolding firstCall
 first-fits s x h =
     let h₁ = not-none (eqb (length s) 0) _ x h in
     let l : length s ≡ 0 → ⊥ = eqb-false _ _ (h₁ .0) in
-    third l (this-or (eqb (leAt 1 s 0) 0) (dropShot byValue, 1) _ x (h₁ .1))
+    second l (this-or (eqb (leAt 1 s 0) 0) (dropShot byValue, 1) _ x (h₁ .1))
   where
-    fifth : (length s ≡ 0 → ⊥) → pick (ltb (length s) (keepLength s)) none (some (keepShot (take (stampLength s) (drop 6 s)) (take (pictureLength s) (drop (6 + stampLength s) s)), keepLength s)) ≡ some x → x .1 ≤ length s
-    fifth l g =
-        let g₁ = not-none (ltb (length s) (keepLength s)) _ x g in
+    keep : Option (Call × ℕ)
+    keep = pick (ltb (length s) (keepLength s)) none (some (keepIn s, keepLength s))
+
+    fourth : pick (eqb (leAt 1 s 0) 2) keep none ≡ some x → x .1 ≤ length s
+    fourth g =
+        let g₁ = not-none (ltb (length s) (keepLength s)) _ x (or-none (eqb (leAt 1 s 0) 2) _ x g) in
         let e : keepLength s ≡ x .1 = ap (λ (y : Call × ℕ). y .1) (Option·some-injective _ _ (g₁ .1)) in
         let m : keepLength s ≤ length s = ltb-false _ _ (g₁ .0) in
         omega arith
 
-    fourth : (length s ≡ 0 → ⊥) → (_≡_ {A = Call × ℕ} (closeBurst, 1) x) ⊎ (pick (ltb (length s) (keepLength s)) none (some (keepShot (take (stampLength s) (drop 6 s)) (take (pictureLength s) (drop (6 + stampLength s) s)), keepLength s)) ≡ some x) → x .1 ≤ length s
-    fourth l (inl e) = let m : 1 ≡ x .1 = ap (λ (y : Call × ℕ). y .1) e in omega arith
-    fourth l (inr g) = fifth l g
-
-    third : (length s ≡ 0 → ⊥) → (_≡_ {A = Call × ℕ} (dropShot byValue, 1) x) ⊎ (pick (eqb (leAt 1 s 0) 1) (some (closeBurst, 1)) (pick (ltb (length s) (keepLength s)) none (some (keepShot (take (stampLength s) (drop 6 s)) (take (pictureLength s) (drop (6 + stampLength s) s)), keepLength s))) ≡ some x) → x .1 ≤ length s
+    third : (length s ≡ 0 → ⊥) → (_≡_ {A = Call × ℕ} (closeBurst, 1) x) ⊎ (pick (eqb (leAt 1 s 0) 2) keep none ≡ some x) → x .1 ≤ length s
     third l (inl e) = let m : 1 ≡ x .1 = ap (λ (y : Call × ℕ). y .1) e in omega arith
-    third l (inr g) = fourth l (this-or (eqb (leAt 1 s 0) 1) (closeBurst, 1) _ x g)
+    third l (inr g) = fourth g
+
+    second : (length s ≡ 0 → ⊥) → (_≡_ {A = Call × ℕ} (dropShot byValue, 1) x) ⊎ (pick (eqb (leAt 1 s 0) 1) (some (closeBurst, 1)) (pick (eqb (leAt 1 s 0) 2) keep none) ≡ some x) → x .1 ≤ length s
+    second l (inl e) = let m : 1 ≡ x .1 = ap (λ (y : Call × ℕ). y .1) e in omega arith
+    second l (inr g) = third l (this-or (eqb (leAt 1 s 0) 1) (closeBurst, 1) _ x g)
 
 -- ---- lengths
 pub calls-most : (n : ℕ) (s : Bytes) → length (scriptCalls n s) ≤ n
@@ -140,6 +150,16 @@ left-some n position script x e =
     ap (λ (o : Option (Call × ℕ)). following o (λ m. scriptCalls n (drop m (drop position script)))) e
     ∙ ap (λ (s : Bytes). x .0 ∷ scriptCalls n s) (drop-drop (x .1) position script)
 
+-- what is left then, behind the calls
+pub rest-none : (n position : ℕ) (script : Bytes) → firstCall (drop position script) ≡ none → scriptRest (suc n) (drop position script) ≡ drop position script
+rest-none n position script e = ap (λ (o : Option (Call × ℕ)). leaving o (drop position script) (λ m. scriptRest n (drop m (drop position script)))) e
+
+pub rest-some : (n position : ℕ) (script : Bytes) (x : Call × ℕ) → firstCall (drop position script) ≡ some x
+    → scriptRest (suc n) (drop position script) ≡ scriptRest n (drop (position + x .1) script)
+rest-some n position script x e =
+    ap (λ (o : Option (Call × ℕ)). leaving o (drop position script) (λ m. scriptRest n (drop m (drop position script)))) e
+    ∙ ap (scriptRest n) (drop-drop (x .1) position script)
+
 -- one more answer
 pub answer-put : (a a₁ a₂ rest : Bytes) (at i₁ num value : ℕ) → i₁ ≡ at + 4 → a₁ ≡ putBytes a at (le 4 num) → a₂ ≡ putBytes a₁ i₁ (le 4 value) → at + 8 + length rest ≤ length a
     → putBytes a₂ (at + 8) rest ≡ putBytes a at ((le 4 num ++ le 4 value) ++ rest)
@@ -189,15 +209,16 @@ module _ (r : Recorder) (b script : Bytes) (position : ℕ) where
         by-some (closeBurst, 1) (first-close here some-here (here-kind ∙ h)) _ b′
         (ap (λ (y : Closed). let st : Step = record { more = true; next = position + 1; refusal = y .refusal; value = y .total; recorder = y .recorder } in st) e) f
 
-    module _ (hk : 1 < leAt 1 script position) where
-      no-drop : leAt 1 here 0 ≡ 0 → ⊥
-      no-drop e = let l = here-kind in omega arith
+    pub other-here : (leAt 1 script position ≡ 0 → ⊥) → (leAt 1 script position ≡ 1 → ⊥) → (leAt 1 script position ≡ 2 → ⊥)
+        → Does (record { more = false; next = position; refusal = 0; value = 0; recorder = r }) b
+    other-here h₀ h₁ h₂ = by-none (first-other here some-here (λ e. h₀ (sym here-kind ∙ e)) (λ e. h₁ (sym here-kind ∙ e)) (λ e. h₂ (sym here-kind ∙ e)))
 
-      no-close : leAt 1 here 0 ≡ 1 → ⊥
-      no-close e = let l = here-kind in omega arith
+    module _ (hk : leAt 1 script position ≡ 2) where
+      keep-kind : leAt 1 here 0 ≡ 2
+      keep-kind = here-kind ∙ hk
 
       pub cut-here : length script - position < 6 → Does (record { more = false; next = position; refusal = 0; value = 0; recorder = r }) b
-      cut-here h = let l = here-length in by-none (first-cut here some-here no-drop no-close (omega arith))
+      cut-here h = let l = here-length in by-none (first-cut here some-here keep-kind (omega arith))
 
       module _ (s p : ℕ) (es : s ≡ leAt 1 script (position + 1)) (ep : p ≡ leAt 4 script (position + 2)) where
         stamp-is : stampLength here ≡ s
@@ -211,7 +232,7 @@ module _ (r : Recorder) (b script : Bytes) (position : ℕ) where
             let l = here-length in
             let e₁ = stamp-is in
             let e₂ = picture-is in
-            by-none (first-cut here some-here no-drop no-close (omega arith))
+            by-none (first-cut here some-here keep-kind (omega arith))
 
         pub keep-here : 6 + (s + p) ≤ length script - position → (n₁ n₂ next : ℕ) → n₁ ≡ s → n₂ ≡ p → next ≡ position + (6 + (s + p))
             → (k : ShotAnswer) (b′ : Bytes) → k ≡ keepAnswer r (take n₁ (drop (position + 6) script)) (take n₂ (drop (position + 6 + s) script)) b
@@ -228,7 +249,7 @@ module _ (r : Recorder) (b script : Bytes) (position : ℕ) where
             let a₂ : take n₂ (drop (position + 6 + s) script) ≡ take (pictureLength here) (drop (6 + stampLength here) here) =
             ap₂ (λ (n : ℕ) (t : Bytes). take n t) (e₂ ∙ sym q₂) (ap (λ (j : ℕ). drop j script) i ∙ sym (drop-drop (6 + stampLength here) position script)) in
             let n : next ≡ position + keepLength here = omega arith in
-            by-some _ (first-keep here some-here no-drop no-close (omega arith)) _ b′
+            by-some _ (first-keep here some-here keep-kind (omega arith)) _ b′
             (ap₂ (λ (y : ShotAnswer) (j : ℕ). let st : Step = record { more = true; next = j; refusal = y .refusal; value = y .shot .0; recorder = y .recorder } in st)
             (ek ∙ ap₂ (λ (x y : Bytes). keepAnswer r x y b) a₁ a₂) n)
             (eb ∙ ap₂ (λ (x y : Bytes). keepBuffer r x y b) a₁ a₂)

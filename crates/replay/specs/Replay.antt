@@ -1,6 +1,6 @@
 -- A list of calls as bytes, and what performing it leaves: demand 3's first sentence about running code.
 -- Assumes nothing.
-use mathlib.Core.Bool.{true, false}
+use mathlib.Core.Bool.{Bool, true, false}
 use mathlib.Core.List.{List, [], _∷_, _++_}
 use mathlib.Core.Option.{Option, some, none}
 use mathlib.Core.Path.{_≡_}
@@ -17,7 +17,7 @@ use Rattle.trace.specs.Agreement.{Reached, editionFor}
 use Rattle.replay.specs.declared.Step.{Step}
 
 -- ---- a script: the calls one after another
--- 0 is a drop, 1 a close; any other byte is a keep, and stamp length (1 byte), picture length (4), stamp and picture follow
+-- 0 is a drop, 1 a close, 2 a keep, and stamp length (1 byte), picture length (4), stamp and picture follow it; no other byte is a call
 abbrev pub stampLength : Bytes → ℕ
 stampLength s = leAt 1 s 1
 
@@ -27,14 +27,17 @@ pictureLength s = leAt 4 s 2
 abbrev pub keepLength : Bytes → ℕ
 keepLength s = 6 + (stampLength s + pictureLength s)
 
--- the first call of a script and how many bytes it takes; none at the script's end, and where a keep is cut by it
+-- the keep that stands first
+abbrev pub keepIn : Bytes → Call
+keepIn s = keepShot (take (stampLength s) (drop 6 s)) (take (pictureLength s) (drop (6 + stampLength s) s))
+
+-- the first call of a script and how many bytes it takes; none at the script's end, where a keep is cut by it, and at a byte that is no call
 unfoldable pub firstCall : Bytes → Option (Call × ℕ)
 firstCall s =
     pick (eqb (length s) 0) none
     (pick (eqb (leAt 1 s 0) 0) (some (dropShot byValue, 1))
     (pick (eqb (leAt 1 s 0) 1) (some (closeBurst, 1))
-    (pick (ltb (length s) (keepLength s)) none
-    (some (keepShot (take (stampLength s) (drop 6 s)) (take (pictureLength s) (drop (6 + stampLength s) s)), keepLength s)))))
+    (pick (eqb (leAt 1 s 0) 2) (pick (ltb (length s) (keepLength s)) none (some (keepIn s, keepLength s))) none)))
 
 -- the calls of a script, at most so many as there is room for their answers
 abbrev pub following : Option (Call × ℕ) → (ℕ → List Call) → List Call
@@ -44,6 +47,15 @@ following (some x) more = x .0 ∷ more (x .1)
 abbrev pub scriptCalls : (room : ℕ) → Bytes → List Call
 scriptCalls zero s = []
 scriptCalls (suc room) s = following (firstCall s) (λ m. scriptCalls room (drop m s))
+
+-- what is left of a script behind these calls
+abbrev pub leaving : Option (Call × ℕ) → Bytes → (ℕ → Bytes) → Bytes
+leaving none s more = s
+leaving (some x) s more = more (x .1)
+
+abbrev pub scriptRest : (room : ℕ) → Bytes → Bytes
+scriptRest zero s = s
+scriptRest (suc room) s = leaving (firstCall s) s (λ m. scriptRest room (drop m s))
 
 -- ---- answers as bytes: refusal number (4), then shot number or total (4)
 abbrev pub answerBytes : Answer → Bytes
@@ -72,6 +84,10 @@ stepBuffer r b (some x) = nextBuffer r b (x .0)
 -- the list that a script says, where so many bytes are lent for the answers: begin's needs eight, and each call's eight more
 abbrev pub listOf : (key : Bytes) (i : Identity) (buffer answers : ℕ) (script : Bytes) → CallList
 listOf key i buffer answers script = record { key = key; identity = i; bufferLength = buffer; calls = scriptCalls (answers / 8 - 1) script }
+
+-- whether the whole script is performed, where so many bytes are lent for the answers: begin's has room, and nothing is left behind the calls
+abbrev pub wholeScript : (answers : ℕ) (script : Bytes) → Bool
+wholeScript answers script = pick (ltb answers 8) false (eqb (length (scriptRest (answers / 8 - 1) script)) 0)
 
 -- what is left of the answers a, of the buffer b and of the count n. Without room for begin's answer nothing is done. Otherwise the answers are those of the plain burst, begin's first, and after an accepted close the front of the buffer is its file
 pub record Replayed (l : CallList) (a a′ b b′ : Bytes) (n : ℕ) : Type 0 where

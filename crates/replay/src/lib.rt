@@ -3,10 +3,18 @@ use burst::Recorder;
 ghost use mathlib.Core.Path.{_≡_};
 ghost use mathlib.Core.Bool.{false};
 ghost use Prim.Native.Nat.{_+_, _*_, _≤_, _<_};
+ghost use lib.Dec.{eqb};
 ghost use lib.ListN.{length, drop};
 ghost use Rattle.bytes_le.specs.Bytes.{putBytes, leAt};
 ghost use Rattle.trace.specs.Trace.{answersFrom, bufferFrom};
-ghost use Rattle.replay.specs.Replay.{firstCall, scriptCalls, answersBytes, stepOf, stepBuffer, listOf, Replayed};
+ghost use Rattle.replay.specs.Replay.{firstCall, scriptCalls, scriptRest, answersBytes, stepOf, stepBuffer, listOf, wholeScript, Replayed};
+
+// The bytes of a script that are calls.
+const DROP: u64 = 0;
+
+const CLOSE: u64 = 1;
+
+const KEEP: u64 = 2;
 
 // What one call of a script leaves: whether there was one, where the next stands, its answer and the recorder.
 pub struct Step {
@@ -32,7 +40,7 @@ fn stopped(r: Recorder, position: usize) -> Step
 
 // As `perform`, for a keep.
 fn keep_step(r: Recorder, script: &[u8], position: usize, buffer: &mut [u8]) -> Step
-    requires { ⌜ (position < length (now script)) × (1 < leAt 1 (now script) position) ⌝ }
+    requires { ⌜ (position < length (now script)) × (leAt 1 (now script) position ≡ 2) ⌝ }
     ensures { λ s. ⌜
         (s ≡ stepOf r (now (buffer .entry)) position (firstCall (drop position (now (script .entry))))) ×
         (now (buffer .exit) ≡ stepBuffer r (now (buffer .entry)) (firstCall (drop position (now (script .entry))))) ⌝ }
@@ -72,7 +80,7 @@ fn perform(r: Recorder, script: &[u8], position: usize, buffer: &mut [u8]) -> St
         return stopped(r, position);
     }
     let kind = bytes_le::load_le(script, position, 1);
-    if kind == 0 {
+    if kind == DROP {
         let k = burst::drop_shot(r);
         let shot = k.shot;
         let recorder = k.recorder;
@@ -84,7 +92,7 @@ fn perform(r: Recorder, script: &[u8], position: usize, buffer: &mut [u8]) -> St
             recorder,
         };
     }
-    if kind == 1 {
+    if kind == CLOSE {
         let k = burst::close(r, buffer);
         let recorder = k.recorder;
         return Step {
@@ -95,14 +103,39 @@ fn perform(r: Recorder, script: &[u8], position: usize, buffer: &mut [u8]) -> St
             recorder,
         };
     }
+    if kind != KEEP {
+        return stopped(r, position);
+    }
     keep_step(r, script, position, buffer)
 }
 
-// Performs the calls of a script, at most so many as there is room for; returns how many.
-fn run(start: Recorder, script: &[u8], room: usize, buffer: &mut [u8], answers: &mut [u8]) -> usize
+// How many answers were written, and whether the whole script was performed.
+pub struct Performed {
+    pub count: usize,
+    pub whole: bool,
+}
+
+// What to answer where the calls end at a position.
+fn ended(count: usize, script: &[u8], position: usize) -> Performed
+    ensures { λ p. ⌜ p ≡ record { count = count; whole = eqb position (length (now (script .entry))) } ⌝ }
+{
+    Performed {
+        count,
+        whole: position == script.len(),
+    }
+}
+
+// Performs the calls of a script, at most so many as there is room for.
+fn run(
+    start: Recorder,
+    script: &[u8],
+    room: usize,
+    buffer: &mut [u8],
+    answers: &mut [u8],
+) -> Performed
     requires { ⌜ 8 * room ≤ length (now answers) ⌝ }
-    ensures { λ n. ⌜
-        (n ≡ length (scriptCalls room (now (script .entry)))) ×
+    ensures { λ p. ⌜
+        (p ≡ record { count = length (scriptCalls room (now (script .entry))); whole = eqb (length (scriptRest room (now (script .entry)))) 0 }) ×
         (now (buffer .exit) ≡ bufferFrom start (now (buffer .entry)) (scriptCalls room (now (script .entry)))) ×
         (now (answers .exit) ≡ putBytes (now (answers .entry)) 0 (answersBytes (answersFrom start (now (buffer .entry)) (scriptCalls room (now (script .entry)))))) ⌝ }
 {
@@ -112,7 +145,7 @@ fn run(start: Recorder, script: &[u8], room: usize, buffer: &mut [u8], answers: 
     while i < room {
         let s = perform(r, script, position, buffer);
         if !s.more {
-            return i;
+            return ended(i, script, position);
         }
         let next = bytes_le::store_le(answers, 8 * i, 4, s.refusal as u64);
         bytes_le::store_le(answers, next, 4, s.value as u64);
@@ -120,10 +153,10 @@ fn run(start: Recorder, script: &[u8], room: usize, buffer: &mut [u8], answers: 
         position = s.next;
         i += 1;
     }
-    i
+    ended(i, script, position)
 }
 
-// Performs a begin and then a script, and writes the answers, eight bytes each; returns how many.
+// Performs a begin and then a script, and writes the answers, eight bytes each.
 pub fn replay(
     key: &[u8],
     burst_number: u64,
@@ -131,18 +164,27 @@ pub fn replay(
     script: &[u8],
     buffer: &mut [u8],
     answers: &mut [u8],
-) -> usize
-    ensures { λ n. ⌜ Replayed
+) -> Performed
+    ensures { λ p. ⌜ Replayed
         (listOf (now (key .entry)) (record { name = record { «burst_number» = «burst_number» }; siteMark = now («site_mark» .entry) }) (length (now (buffer .entry))) (length (now (answers .entry))) (now (script .entry)))
-        (now (answers .entry)) (now (answers .exit)) (now (buffer .entry)) (now (buffer .exit)) n ⌝ }
+        (now (answers .entry)) (now (answers .exit)) (now (buffer .entry)) (now (buffer .exit)) (p .count) ×
+        (p .whole ≡ wholeScript (length (now (answers .entry))) (now (script .entry))) ⌝ }
 {
     if answers.len() < 8 {
-        return 0;
+        return Performed {
+            count: 0,
+            whole: false,
+        };
     }
     let room = answers.len() / 8 - 1;
     let b = burst::begin(key, burst_number, site_mark, buffer);
     let next = bytes_le::store_le(answers, 0, 4, b.refusal as u64);
     bytes_le::store_le(answers, next, 4, 0);
     let r = b.recorder;
-    1 + run(r, script, room, buffer, &mut answers[8..])
+    let p = run(r, script, room, buffer, &mut answers[8..]);
+    let count = 1 + p.count;
+    Performed {
+        count,
+        whole: p.whole,
+    }
 }

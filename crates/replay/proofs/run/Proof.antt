@@ -16,8 +16,8 @@ use Rattle.burst.specs.declared.Recorder.{Recorder}
 use Rattle.trace.specs.Plain.{Call}
 use Rattle.trace.specs.Trace.{answersFrom, bufferFrom}
 use Rattle.replay.specs.declared.Step.{Step}
-use Rattle.replay.specs.Replay.{firstCall, scriptCalls, answersBytes, stepOf, stepBuffer}
-use Rattle.replay.proofs.Scripts.{stops, goes, first-fits, left-none, left-some}
+use Rattle.replay.specs.Replay.{firstCall, scriptCalls, scriptRest, answersBytes, stepOf, stepBuffer}
+use Rattle.replay.proofs.Scripts.{stops, goes, first-fits, left-none, left-some, rest-none, rest-some}
 use Rattle.replay.proofs.Turns.{Left, all-left, none-left, turned}
 use Rattle.replay.proofs.run.Statement.{statement}
 use Rattle.replay.proofs.run.Tie as tie
@@ -33,20 +33,21 @@ loop-holds : tie.Need-loop-holds Inv-loop μ-loop
 loop-holds c = (omega arith, omega arith, refl, refl, all-left _ _ _ _ _)
 
 same-length : tie.Need-same-length Inv-loop μ-loop
-same-length c = c .before .before .before .before .perform .kept .1 .1 .1 .0 ∙ c .before .before .before .before .before .before .before .loop .inv .3
+same-length c = c .before .before .before .before .before .perform .kept .1 .1 .1 .0 ∙ c .before .before .before .before .before .before .before .before .loop .inv .3
 
 same-length-2 : tie.Need-same-length-2 Inv-loop μ-loop
-same-length-2 c = c .before .before .before .before .before .before .before .loop .inv .2
+same-length-2 c = c .before .before .before .before .before .before .before .before .loop .inv .2
 
 returns : tie.Need-returns Inv-loop μ-loop
 returns c =
-    let l = c .before .before .before .before .before .before .before .loop in
-    let a = c .before .before .before .before .before .before .before .before .before .before .before .args in
-    let f = stops (l .r) (l .buffer) (l .position) (a .script .now) (c .before .before .before .before .perform .result) (c .before .before .before .before .perform .ensures .0) (not-true _ (c .if1 .taken)) in
+    let l = c .before .before .before .before .before .before .before .before .loop in
+    let a = c .before .before .before .before .before .before .before .before .before .before .before .before .args in
+    let f = stops (l .r) (l .buffer) (l .position) (a .script .now) (c .before .before .before .before .before .perform .result) (c .before .before .before .before .before .perform .ensures .0) (not-true _ (c .before .if1 .taken)) in
     let e : a .room - l .i ≡ suc (a .room - l .i - 1) = omega arith in
     let w = none-left (a .script .now) (a .room) _ _ _ (l .r) (l .buffer) (l .answers) (l .position) (l .i)
-    (ap (λ (n : ℕ). scriptCalls n (drop (l .position) (a .script .now))) e ∙ left-none (a .room - l .i - 1) (l .position) (a .script .now) f) (l .inv .4) in
-    (w .0, c .before .before .before .before .perform .ensures .1 ∙ ap (stepBuffer (l .r) (l .buffer)) f ∙ w .1, w .2)
+    (ap (λ (n : ℕ). scriptCalls n (drop (l .position) (a .script .now))) e ∙ left-none (a .room - l .i - 1) (l .position) (a .script .now) f)
+    (ap (λ (n : ℕ). scriptRest n (drop (l .position) (a .script .now))) e ∙ rest-none (a .room - l .i - 1) (l .position) (a .script .now) f) (l .inv .1) _ (c .ended .ensures) (l .inv .4) in
+    (w .0, c .before .before .before .before .before .perform .ensures .1 ∙ ap (stepBuffer (l .r) (l .buffer)) f ∙ w .1, w .2)
 
 store-le-requires : tie.Need-store-le-requires Inv-loop μ-loop
 store-le-requires c κs = omega (arith, c .before .before .before .before .before .before .before .before .before .loop, c .before .before .before .before .before .before .before .before .before .before .before .before .before .pre, c .before .before .before .before .before .before .before .before .loop-test)
@@ -74,17 +75,18 @@ loop-again c =
       c .before .before .before .store-le2 .kept .0 ∙ c .before .before .before .before .before .before .before .before .store-le .kept .0 ∙ l .inv .2,
       c .before .before .before .before .before .before .before .before .before .before .before .before .before .before .before .perform .kept .1 .1 .1 .0 ∙ l .inv .3,
       turned (a .script .now) (a .room) _ _ _ (l .r) (l .buffer) (l .answers) (l .position) (l .i) x st
-          (ap (λ (n : ℕ). scriptCalls n (drop (l .position) (a .script .now))) e ∙ left-some (a .room - (l .i + 1)) (l .position) (a .script .now) x (g .1)) is _ _ _ _
+          (ap (λ (n : ℕ). scriptCalls n (drop (l .position) (a .script .now))) e ∙ left-some (a .room - (l .i + 1)) (l .position) (a .script .now) x (g .1))
+          (ap (λ (n : ℕ). scriptRest n (drop (l .position) (a .script .now))) e ∙ rest-some (a .room - (l .i + 1)) (l .position) (a .script .now) x (g .1)) is _ _ _ _
           (c .before .before .before .before .before .before .before .before .before .before .before .before .before .before .before .perform .ensures .1 ∙ ap (stepBuffer (l .r) (l .buffer)) (g .1)) (c .before .before .before .before .before .before .before .before .store-le .ensures .0) (c .before .before .before .before .before .before .before .before .store-le .ensures .1) (c .before .before .before .store-le2 .ensures .1)
           (omega (arith, c .before .before .before .before .before .before .before .before .before .before .before .before .before .before .before .before .before .before .before .before .before .before .pre, l)) (c .before .before .before .before .before .before .before .before .before .before .before .before .before .before .before .before .before .loop-test .taken) (l .inv .4),
     )
 
 returns-2 : tie.Need-returns-2 Inv-loop μ-loop
 returns-2 c =
-    let l = c .before .loop in
-    let a = c .before .before .before .before .before .args in
+    let l = c .before .before .loop in
+    let a = c .before .before .before .before .before .before .args in
     let e : a .room - l .i ≡ 0 = omega arith in
-    none-left (a .script .now) (a .room) _ _ _ (l .r) (l .buffer) (l .answers) (l .position) (l .i) (ap (λ (n : ℕ). scriptCalls n (drop (l .position) (a .script .now))) e) (l .inv .4)
+    none-left (a .script .now) (a .room) _ _ _ (l .r) (l .buffer) (l .answers) (l .position) (l .i) (ap (λ (n : ℕ). scriptCalls n (drop (l .position) (a .script .now))) e) (ap (λ (n : ℕ). scriptRest n (drop (l .position) (a .script .now))) e) (l .inv .1) _ (c .ended2 .ensures) (l .inv .4)
 
 pub run-spec : {M : Type 1} → statement M
 run-spec =
@@ -94,6 +96,7 @@ run-spec =
     μ-loop
     loop-holds
     (λ c κs. omega arith)
+    (λ c κs. search needs)
     same-length
     same-length-2
     returns
@@ -105,6 +108,7 @@ run-spec =
     (λ c. omega arith)
     (λ c. omega arith)
     loop-again
+    (λ c κs. search needs)
     (λ c. omega arith)
     (λ c. omega arith)
     returns-2)
