@@ -291,6 +291,36 @@ static const char *end_strips(uint8_t *state, uint8_t *sealed_tag)
     return wrong;
 }
 
+/* A state slice of any length that is too short: 5 from all three calls, and
+   nothing is read or written, which a memory checker sees. What went wrong, or
+   NULL. */
+static const char *short_states(const struct input *in)
+{
+    const char *wrong = NULL;
+    uint8_t *out = filled(TAG);
+
+    for (size_t length = 0; wrong == NULL && length < STATE; length++) {
+        /* The slice ends where its piece of the heap does. */
+        uint8_t *piece = filled(length + 1);
+        uint8_t *state = piece + 1;
+        if (icepole128_start(in->key, ICEPOLE128_KEY_BYTES, in->nonce,
+                             ICEPOLE128_NONCE_BYTES, in->secret,
+                             ICEPOLE128_SECRET_BYTES, in->ad1, in->ad1_len,
+                             in->ad2, in->ad2_len, out, TAG, state,
+                             length) != ICEPOLE_OUTPUT_TOO_SHORT ||
+            icepole128_strip(state, length, in->msg, 0, out, 0) !=
+                ICEPOLE_OUTPUT_TOO_SHORT ||
+            icepole128_end(state, length, out, TAG) != ICEPOLE_OUTPUT_TOO_SHORT) {
+            wrong = "a state that is too short was not refused with 5";
+        } else if (!is_filled(piece, length + 1) || !is_filled(out, TAG)) {
+            wrong = "a call on a state that is too short wrote";
+        }
+        free(piece);
+    }
+    free(out);
+    return wrong;
+}
+
 static uint32_t start_strips(const struct input *in, size_t nonce_len,
                              uint8_t *sealed_secret, uint8_t *state)
 {
@@ -347,6 +377,9 @@ static int try_message(const struct variant *v, size_t ad_len, size_t msg_len)
     /* The first variant is ICEPOLE-128, the one that has strips. */
     if (wrong == NULL && v == &variants[0]) {
         wrong = in_strips(v, &in);
+        if (wrong == NULL) {
+            wrong = short_states(&in);
+        }
     }
     free_input(&in);
     if (wrong != NULL) {

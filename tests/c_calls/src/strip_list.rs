@@ -4,6 +4,7 @@
 use crate::case::Case;
 use crate::order::first_to_hold;
 use crate::strip_pair::{Answer, StripPair};
+use crate::strips::STATE_BYTES;
 use reference::sealing::{MAXIMUM, TAG_BYTES};
 
 /// A strip or an end, with the length of the output that is lent to it.
@@ -29,11 +30,13 @@ impl StripCall {
     }
 }
 
-/// The plain message: the strips accepted so far, joined, and whether it is
-/// finished. It is worked out from the calls' arguments alone.
+/// The plain message: the strips accepted so far, joined, whether it is
+/// finished, and whether the lent slice has room for a state. It is worked out
+/// from the calls' arguments alone.
 struct PlainMessage {
     message: Vec<u8>,
     finished: bool,
+    has_room: bool,
 }
 
 impl PlainMessage {
@@ -41,13 +44,16 @@ impl PlainMessage {
     fn take(&mut self, call: &StripCall) -> u32 {
         let number = match call {
             StripCall::Strip { msg, out_len } => first_to_hold(&[
+                (5, !self.has_room),
                 (14, self.finished),
                 (4, self.message.len() + msg.len() > MAXIMUM),
                 (5, *out_len < msg.len()),
             ]),
-            StripCall::End { out_len } => {
-                first_to_hold(&[(14, self.finished), (5, *out_len < TAG_BYTES)])
-            }
+            StripCall::End { out_len } => first_to_hold(&[
+                (5, !self.has_room),
+                (14, self.finished),
+                (5, *out_len < TAG_BYTES),
+            ]),
         };
         match call {
             StripCall::Strip { msg, .. } if number == 0 => self.message.extend(msg),
@@ -78,6 +84,7 @@ impl StripList {
         let mut plain = PlainMessage {
             message: vec![],
             finished: answer.is_err(),
+            has_room: self.state_len >= STATE_BYTES,
         };
         let mut told = vec![("start", answer.clone().err().unwrap_or(0))];
         let mut written = answer.clone().unwrap_or_default();

@@ -74,21 +74,22 @@ impl StripPair {
         (StripPair { lent, state }, expected)
     }
 
-    /// A strip, for an output of `out_len` bytes.
+    /// A strip, for an output of `out_len` bytes. Where too few bytes are lent
+    /// to hold a state, that comes before all else: 5.
     pub fn strip(&mut self, msg: &[u8], out_len: usize, what: &dyn Fn() -> String) -> Answer {
         let expected = match &mut self.state {
             Some(state) => state.strip(msg, out_len),
-            None => Err(14),
+            None => Err(5),
         };
         let call = |lent: &mut [u8], out: &mut [u8]| strip(lent, msg, out);
         self.check(out_len, call, expected, what)
     }
 
-    /// An end, for an output of `out_len` bytes.
+    /// An end, for an output of `out_len` bytes; 5 as for a strip.
     pub fn end(&mut self, out_len: usize, what: &dyn Fn() -> String) -> Answer {
         let expected = match &mut self.state {
             Some(state) => state.end(out_len),
-            None => Err(14),
+            None => Err(5),
         };
         self.check(out_len, end, expected, what)
     }

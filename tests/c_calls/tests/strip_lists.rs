@@ -71,7 +71,7 @@ fn after_a_refused_start() {
     assert_eq!(numbers(&short_out), [5, 14, 14, 14]);
     let mut short_state = list_of(calls());
     short_state.state_len = 168;
-    assert_eq!(numbers(&short_state), [5, 14, 14, 14]);
+    assert_eq!(numbers(&short_state), [5, 5, 5, 5]);
     let mut short_key = list_of(calls());
     short_key.case.key.pop();
     assert_eq!(numbers(&short_key), [1, 14, 14, 14]);

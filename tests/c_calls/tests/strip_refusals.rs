@@ -85,19 +85,56 @@ fn start_by_example() {
     }
 }
 
-/// A start with room for no state gives 5, its other numbers first. Nothing is
+/// A slice of any length below 169 gets 5 from all three calls: from start
+/// after its own numbers, from strip and end before all else. Nothing is
 /// written, which `StripPair` sees.
 #[test]
-fn start_without_room_for_the_state() {
+fn no_room_for_the_state() {
     let case = right();
-    for state_len in [0, 1, 160, 168] {
-        assert_eq!(start(&case.start(), 16, state_len).0, 5);
-        let key = &case.key[..15];
-        let given = Start {
-            key,
-            ..case.start()
-        };
-        assert_eq!(start(&given, 16, state_len).0, 1);
+    let given = case.start();
+    for state_len in 0..STATE_BYTES {
+        for out_len in [16, 15, 0, 40] {
+            assert_eq!(start(&given, out_len, state_len).0, 5, "{state_len}");
+        }
+        for (number, change) in [
+            (1, (|given| given.key = &BYTES[..15]) as fn(&mut Start)),
+            (2, |given| given.nonce = &BYTES[..12]),
+            (3, |given| given.secret = &[]),
+            (4, |given| given.ad1 = &ZEROS),
+        ] {
+            let mut given = case.start();
+            change(&mut given);
+            assert_eq!(start(&given, 16, state_len).0, number, "{state_len}");
+        }
+        // What the bytes would say does not matter: zeros, a count above the
+        // maximum, finished.
+        for bytes in [vec![0; STATE_BYTES], counting(5), vec![0xFF; STATE_BYTES]] {
+            let state = &bytes[..state_len];
+            for (msg, out_len) in [(&[][..], 0), (&[1], 1), (&[1], 0), (&ZEROS[..], 0)] {
+                assert_eq!(strip(state, msg, out_len), 5, "{state_len}");
+            }
+            for out_len in [0, 15, 16, 40] {
+                assert_eq!(end(state, out_len), 5, "{state_len}");
+            }
+        }
+    }
+}
+
+/// After a start that had no room for its state, every strip and end gets 5.
+#[test]
+fn calls_after_a_start_without_room() {
+    let case = right();
+    for state_len in 0..STATE_BYTES {
+        let what = || format!("state {state_len}");
+        let (mut pair, answer) = StripPair::start(&case.start(), 16, state_len, &what);
+        assert_eq!(answer, Err(5), "{}", what());
+        for call in [[0, 1], [1, 0]].concat() {
+            let answer = match call {
+                0 => pair.strip(&[1, 2], 2, &what),
+                _ => pair.end(16, &what),
+            };
+            assert_eq!(answer, Err(5), "{}", what());
+        }
     }
 }
 
@@ -118,7 +155,7 @@ fn longest_associated_data() {
 
 #[test]
 fn strip_by_example() {
-    // 14: after an end, a count above the maximum, too few bytes.
+    // 14: after an end, a count above the maximum.
     let mut pair = StripPair::holding(&counting(5));
     let what = || "strip after end".to_string();
     assert!(pair.end(16, &what).is_ok());
@@ -135,8 +172,6 @@ fn strip_by_example() {
         assert_eq!(strip(&counting(count), &[], 0), 14, "count {count}");
         assert_eq!(strip(&counting(count), &[1], 1), 14, "count {count}");
     }
-    assert_eq!(strip(&counting(5)[..168], &[1], 1), 14);
-    assert_eq!(strip(&[], &[1], 1), 14);
 
     // 4: the sum.
     assert_eq!(strip(&counting(MOST), &[1], 1), 4);
@@ -147,10 +182,12 @@ fn strip_by_example() {
     assert_eq!(strip(&counting(1), &ZEROS[1..], 1), 4);
     assert_eq!(strip(&counting(0), &ZEROS[1..], 1), 5);
 
-    // 5: the output.
+    // 5: the output, and too few bytes for a state.
     assert_eq!(strip(&counting(0), &[1, 2, 3], 2), 5);
     assert_eq!(strip(&counting(0), &[1, 2, 3], 0), 5);
     assert_eq!(strip(&counting(0), &[1, 2, 3], 3), 0);
+    assert_eq!(strip(&counting(5)[..168], &[1], 1), 5);
+    assert_eq!(strip(&[], &[1], 1), 5);
 }
 
 #[test]
@@ -163,8 +200,8 @@ fn end_by_example() {
     for count in [MOST + 1, 1 << 32, (1 << 32) + 5, u64::MAX] {
         assert_eq!(end(&counting(count), 16), 14, "count {count}");
     }
-    assert_eq!(end(&counting(5)[..168], 16), 14);
-    assert_eq!(end(&[], 16), 14);
+    assert_eq!(end(&counting(5)[..168], 16), 5);
+    assert_eq!(end(&[], 16), 5);
     for count in [0, 1, 127, 128, 129, MOST - 1, MOST] {
         let numbers = [0, 15, 16, 17].map(|out_len| end(&counting(count), out_len));
         assert_eq!(numbers, [5, 5, 0, 0], "count {count}");
@@ -213,6 +250,7 @@ fn state_of(count: u64, finished: u8, length: usize) -> Vec<u8> {
     state
 }
 
+/// Behind 5 for a slice that holds no state.
 #[test]
 fn strip_in_the_order_14_4_5() {
     let messages = [
@@ -228,9 +266,9 @@ fn strip_in_the_order_14_4_5() {
         // An output for a long message is always too short.
         let out_len = [msg.len(), msg.len().saturating_sub(1), msg.len() + 3, 0][o].min(60);
         let order = [
+            (5, STATES[t] < STATE_BYTES),
             (14, finished != 0),
             (14, count > MOST),
-            (14, STATES[t] < STATE_BYTES),
             (4, u128::from(count) + msg.len() as u128 > MAXIMUM as u128),
             (5, out_len < msg.len()),
         ];
@@ -242,15 +280,16 @@ fn strip_in_the_order_14_4_5() {
     assert_eq!(subsets.len(), 3 << 3);
 }
 
+/// Behind 5 for a slice that holds no state.
 #[test]
 fn end_in_the_order_14_5() {
     let mut subsets = HashSet::new();
     for [c, f, t, o] in choices([COUNTS.len(), 4, STATES.len(), 4]) {
         let (count, finished, out_len) = (COUNTS[c], [0, 1, 2, 255][f], [16, 15, 0, 20][o]);
         let order = [
+            (5, STATES[t] < STATE_BYTES),
             (14, finished != 0),
             (14, count > MOST),
-            (14, STATES[t] < STATE_BYTES),
             (5, out_len < 16),
         ];
         subsets.insert(order);
