@@ -11,7 +11,7 @@
 
 enum { MIB = BURST_MAX_PICTURE_BYTES, SHAPES = 11, CALLS = 4, TURNS = 101 };
 enum { HEADER = 32, ENTRY = 12, OVERHEAD = ICEPOLE128_OVERHEAD_BYTES };          /* of the file */
-enum { CLOSE = 1, KEEP = 2, KEEP_FRONT = 6 + BURST_STAMP_BYTES, CLOSE_BYTES = 1 }; /* of a script (burst.h) */
+enum { KEEP_FRONT = 6 + BURST_STAMP_BYTES, CLOSE_BYTES = 1 }; /* of a script (burst.h) */
 
 struct burst {
     size_t pictures, bytes, script_len, file_len;
@@ -22,7 +22,7 @@ typedef void (*call_t)(const struct burst *);
 
 static uint8_t key[16], nonce[16], mark16[16], ad[ENTRY], answers[BURST_ANSWER_BYTES * (BURST_MAX_SHOTS + 2)];
 static uint8_t info[BURST_CHECK_INFO_BYTES], out[MIB], sealed[MIB + OVERHEAD];
-static uint32_t mark, offset, size;
+static uint32_t mark, offset, size, whole;
 
 static void must(int done)
 {
@@ -41,14 +41,14 @@ static void seal(const struct burst *b)
 
 static void record(const struct burst *b)
 {
-    must(burst_replay(key, 16, 7, mark16, 16, b->script, b->script_len, b->file, b->file_len, answers, sizeof answers) == b->pictures + 2);
+    must(burst_replay(key, 16, 7, mark16, 16, b->script, b->script_len, b->file, b->file_len, answers, sizeof answers, &whole) == b->pictures + 2 && whole);
 }
 
 static void check(const struct burst *b) { must(!burst_check(key, 16, b->file, b->file_len, &mark, info, sizeof info)); }
 
 static void fetch(const struct burst *b, size_t place)
 {
-    must(!burst_fetch(key, 16, b->file, b->file_len, (uint16_t)place, out, sizeof out, &mark, info, sizeof info));
+    must(!burst_fetch(key, 16, b->file, b->file_len, place, out, sizeof out, &mark, info, sizeof info));
 }
 
 static void fetch_last(const struct burst *b) { fetch(b, b->pictures - 1); }
@@ -61,7 +61,7 @@ static void fetch_each(const struct burst *b)
 
 static void locate_last(const struct burst *b)
 {
-    must(!burst_record(key, 16, b->file, b->file_len, (uint16_t)(b->pictures - 1), &mark, &offset, &size));
+    must(!burst_record(key, 16, b->file, b->file_len, b->pictures - 1, &mark, &offset, &size));
 }
 
 /* A recorded burst of so many pictures of so many bytes. It is never freed: the program uses each to its end. */
@@ -79,10 +79,10 @@ static struct burst burst_of(size_t pictures, size_t bytes)
     for (size_t i = 0; i < b.script_len; i++)
         b.script[i] = (uint8_t)(i * 31 + 7);
     for (size_t i = 0; i < pictures; i++) {
-        uint8_t front[6] = {KEEP, BURST_STAMP_BYTES, (uint8_t)bytes, (uint8_t)(bytes >> 8), (uint8_t)(bytes >> 16), 0};
+        uint8_t front[6] = {BURST_CALL_KEEP, BURST_STAMP_BYTES, (uint8_t)bytes, (uint8_t)(bytes >> 8), (uint8_t)(bytes >> 16), 0};
         memcpy(b.script + i * keep, front, sizeof front);
     }
-    b.script[b.script_len - 1] = CLOSE;
+    b.script[b.script_len - 1] = BURST_CALL_CLOSE;
     record(&b);
     check(&b);
     return b;

@@ -120,7 +120,6 @@ static int reader_refused(const char *call, uint32_t number, uint32_t mark)
 
 /* ---- The script of a burst ---- */
 
-enum { SCRIPT_DROP = 0, SCRIPT_CLOSE = 1, SCRIPT_KEEP = 2 };
 enum { KEEP_FRONT = 6, CLOSE_BYTES = 1 };
 enum { RECORD_OVERHEAD = 32, ENTRY_BYTES = 12 }; /* sealed stamp and tag; the index entry */
 
@@ -155,7 +154,7 @@ static int script_keep(struct script *s, const uint8_t stamp[BURST_STAMP_BYTES],
     if (left < front || length > left - front || length > file_left(s) || length > UINT32_MAX) {
         return 0;
     }
-    at[0] = SCRIPT_KEEP;
+    at[0] = BURST_CALL_KEEP;
     at[1] = BURST_STAMP_BYTES;
     put_u32(at + 2, (uint32_t)length);
     memcpy(at + KEEP_FRONT, stamp, BURST_STAMP_BYTES);
@@ -171,7 +170,7 @@ static int script_drop(struct script *s)
     if (script_left(s) < 1) {
         return 0;
     }
-    s->bytes[s->used++] = SCRIPT_DROP;
+    s->bytes[s->used++] = BURST_CALL_DROP;
     s->calls++;
     return 1;
 }
@@ -181,7 +180,7 @@ static int script_close(struct script *s)
     if (s->used >= s->room || s->calls >= s->most_calls) {
         return 0;
     }
-    s->bytes[s->used++] = SCRIPT_CLOSE;
+    s->bytes[s->used++] = BURST_CALL_CLOSE;
     s->calls++;
     return 1;
 }
@@ -234,16 +233,17 @@ static int record_firing(struct script *s, uint32_t firing, uint8_t frame[FRAME_
     return 1;
 }
 
-/* Goes through the answers: begin's, then one for each call, the close's last. What can be refused was tested before, so that a
+/* Goes through the answers: begin's, then one for each call, the close's last. A script that was not performed whole has lost its close,
+ * if nothing else. What can be refused was tested before, so that a
  * refusal here is a fault of this program: it is told, and the file is not used, since the shots after a refused one have wrong
  * numbers. Returns the file's length, 0 where there is none. */
-static size_t file_length(const uint8_t *answers, size_t count, size_t calls)
+static size_t file_length(const uint8_t *answers, size_t count, size_t calls, uint32_t whole)
 {
     uint32_t shot_or_total = 0;
     int refused = 0;
 
-    if (count != calls + 1) {
-        printf("%zu answers to %zu calls\n", count, calls + 1);
+    if (whole != 1 || count != calls + 1) {
+        printf("%zu answers to %zu calls: not the whole script was performed\n", count, calls + 1);
         return 0;
     }
     for (size_t call = 0; call < count; call++) {
@@ -267,6 +267,7 @@ static size_t file_length(const uint8_t *answers, size_t count, size_t calls)
 static size_t record_burst(struct script *s, uint8_t *frame, uint8_t *buffer, uint8_t *answers)
 {
     size_t count;
+    uint32_t whole;
 
     for (uint32_t firing = 0; firing < FIRINGS; firing++) {
         if (!record_firing(s, firing, frame)) {
@@ -278,8 +279,8 @@ static size_t record_burst(struct script *s, uint8_t *frame, uint8_t *buffer, ui
         return 0;
     }
     count = burst_replay(key, BURST_KEY_BYTES, burst_number, site_mark, BURST_SITE_MARK_BYTES, s->bytes, s->used,
-                         buffer, BUFFER_ROOM, answers, ANSWERS_ROOM);
-    return file_length(answers, count, s->calls);
+                         buffer, BUFFER_ROOM, answers, ANSWERS_ROOM, &whole);
+    return file_length(answers, count, s->calls, whole);
 }
 
 /* ---- The card ---- */
@@ -358,7 +359,7 @@ static int as_the_sensor_gave(const uint8_t *picture, size_t length, const uint8
 }
 
 /* Fetches one picture into a piece of the heap of its length, which the record's size tells. */
-static int read_picture(const uint8_t *file, size_t file_len, uint16_t place, uint8_t *frame)
+static int read_picture(const uint8_t *file, size_t file_len, size_t place, uint8_t *frame)
 {
     uint8_t info[BURST_FETCH_INFO_BYTES];
     uint32_t mark, offset, size;
@@ -406,7 +407,7 @@ static int read_burst(const uint8_t *file, size_t file_len, uint8_t *frame)
         printf("this is the file of another burst\n");
         return 0;
     }
-    for (uint16_t place = 0; place < kept; place++) {
+    for (size_t place = 0; place < kept; place++) {
         if (!read_picture(file, file_len, place, frame)) {
             return 0;
         }

@@ -94,7 +94,7 @@ struct lent {
     uint8_t *key, *site_mark, *stamp, *picture;
     uint8_t *script, *file, *answers;
     uint8_t *check_info, *fetch_info, *out;
-    uint32_t *mark, *offset, *size;
+    uint32_t *mark, *offset, *size, *whole;
 };
 
 static struct lent lend(void)
@@ -113,6 +113,7 @@ static struct lent lend(void)
     l.mark = number();
     l.offset = number();
     l.size = number();
+    l.whole = number();
     return l;
 }
 
@@ -131,23 +132,24 @@ static void give_back(struct lent *l)
     free(l->mark);
     free(l->offset);
     free(l->size);
+    free(l->whole);
 }
 
 /* Drop, keep, drop, close. */
 static void write_script(uint8_t *script, const uint8_t *stamp,
                          const uint8_t *picture)
 {
-    const uint8_t keep[] = {2, STAMP, PICTURE, 0, 0, 0};
+    const uint8_t keep[] = {BURST_CALL_KEEP, STAMP, PICTURE, 0, 0, 0};
     size_t at = 0;
-    script[at++] = 0;
+    script[at++] = BURST_CALL_DROP;
     memcpy(script + at, keep, sizeof keep);
     at += sizeof keep;
     memcpy(script + at, stamp, STAMP);
     at += STAMP;
     memcpy(script + at, picture, PICTURE);
     at += PICTURE;
-    script[at++] = 0;
-    script[at] = 1;
+    script[at++] = BURST_CALL_DROP;
+    script[at] = BURST_CALL_CLOSE;
 }
 
 /* Each step says what went wrong, or NULL. */
@@ -157,8 +159,8 @@ static const char *record(struct lent *l)
 
     write_script(l->script, l->stamp, l->picture);
     count = burst_replay(l->key, KEY, 7, l->site_mark, SITE_MARK, l->script,
-                         SCRIPT, l->file, TOTAL, l->answers, ANSWERS);
-    if (count != 1 + CALLS) {
+                         SCRIPT, l->file, TOTAL, l->answers, ANSWERS, l->whole);
+    if (count != 1 + CALLS || *l->whole != 1) {
         return "not every call has an answer";
     }
     if (memcmp(l->answers, expected_answers, ANSWERS) != 0) {
@@ -185,8 +187,8 @@ static const char *record_short(struct lent *l)
     const char *wrong = NULL;
     size_t count = burst_replay(l->key, KEY, 7, l->site_mark, SITE_MARK,
                                 l->script, SCRIPT, buffer, TOTAL - 1, answers,
-                                ANSWERS);
-    if (count != 1 + CALLS ||
+                                ANSWERS, l->whole);
+    if (count != 1 + CALLS || *l->whole != 1 ||
         memcmp(answers + 2 * BURST_ANSWER_BYTES, answer, sizeof answer) != 0) {
         wrong = "a buffer one byte short was not refused with 11";
     } else if (!is_filled(buffer + 64, TOTAL - 1 - 64)) {
@@ -194,6 +196,71 @@ static const char *record_short(struct lent *l)
     }
     free(buffer);
     free(answers);
+    return wrong;
+}
+
+/* Every cut of the script, each on its own piece of the heap, and each room for
+   answers: whole is 1 exactly where all of the script was performed. */
+static const char *record_parts(struct lent *l)
+{
+    static const size_t ends[] = {0, 1, SCRIPT - 2, SCRIPT - 1, SCRIPT};
+    const char *wrong = NULL;
+
+    for (size_t length = 0; wrong == NULL && length <= SCRIPT; length++) {
+        uint8_t *buffer = filled(TOTAL);
+        uint8_t *answers = filled(ANSWERS);
+        uint8_t *script = allocate(length + 1);
+        uint32_t all = 0;
+        /* The cut script ends where its piece of the heap does. */
+        memcpy(script + 1, l->script, length);
+        for (size_t i = 0; i < sizeof ends / sizeof ends[0]; i++) {
+            all |= length == ends[i];
+        }
+        *l->whole = FILL_NUMBER;
+        burst_replay(l->key, KEY, 7, l->site_mark, SITE_MARK, script + 1, length,
+                     buffer, TOTAL, answers, ANSWERS, l->whole);
+        if (*l->whole != all) {
+            wrong = "whole is wrong of a cut script";
+        }
+        free(buffer);
+        free(answers);
+        free(script);
+    }
+    for (size_t room = 0; wrong == NULL && room <= ANSWERS; room++) {
+        uint8_t *buffer = filled(TOTAL);
+        uint8_t *answers = filled(room + 1);
+        size_t count;
+        *l->whole = FILL_NUMBER;
+        count = burst_replay(l->key, KEY, 7, l->site_mark, SITE_MARK, l->script,
+                             SCRIPT, buffer, TOTAL, answers + 1, room, l->whole);
+        if (count != room / BURST_ANSWER_BYTES ||
+            *l->whole != (uint32_t)(room >= ANSWERS)) {
+            wrong = "count or whole is wrong where there is little room";
+        }
+        free(buffer);
+        free(answers);
+    }
+    return wrong;
+}
+
+/* A byte that is no call ends the script; what follows is not performed. */
+static const char *record_no_call(struct lent *l)
+{
+    const char *wrong = NULL;
+
+    for (unsigned byte = BURST_CALL_KEEP + 1; wrong == NULL && byte < 256; byte++) {
+        const uint8_t script[] = {BURST_CALL_DROP, (uint8_t)byte, BURST_CALL_CLOSE};
+        uint8_t *buffer = filled(TOTAL);
+        uint8_t *answers = filled(ANSWERS);
+        size_t count = burst_replay(l->key, KEY, 7, l->site_mark, SITE_MARK, script,
+                                    sizeof script, buffer, TOTAL, answers, ANSWERS,
+                                    l->whole);
+        if (count != 2 || *l->whole != 0) {
+            wrong = "a byte that is no call did not end the script";
+        }
+        free(buffer);
+        free(answers);
+    }
     return wrong;
 }
 
@@ -208,6 +275,8 @@ static const char *read_back(struct lent *l)
 {
     const uint8_t counts[] = {3, 0, 1, 0, 2, 0};
     const uint8_t shot_and_length[] = {2, 0, PICTURE, 0, 0, 0};
+    /* Their low 16 or 32 bits are those of place 0. */
+    const size_t places[] = {65536, (size_t)1 << 32, (size_t)1 << 63};
 
     if (burst_check(l->key, KEY, l->file, TOTAL, l->mark, l->check_info,
                     BURST_CHECK_INFO_BYTES) != BURST_DONE) {
@@ -249,6 +318,15 @@ static const char *read_back(struct lent *l)
         *l->mark != 0 || *l->offset != 0 || *l->size != 0) {
         return "place 1 was not refused with 13";
     }
+    for (size_t i = 0; i < sizeof places / sizeof places[0]; i++) {
+        if (burst_record(l->key, KEY, l->file, TOTAL, places[i], l->mark,
+                         l->offset, l->size) != BURST_NO_SUCH_PLACE ||
+            burst_fetch(l->key, KEY, l->file, TOTAL, places[i], l->out, PICTURE,
+                        l->mark, l->fetch_info, BURST_FETCH_INFO_BYTES) !=
+                BURST_NO_SUCH_PLACE) {
+            return "a wide place was not refused with 13";
+        }
+    }
     return NULL;
 }
 
@@ -285,6 +363,28 @@ static const char *read_changed(struct lent *l)
     return NULL;
 }
 
+/* The listing into exactly as many bytes as it has, and into one byte less. */
+static const char *read_list(struct lent *l)
+{
+    static const char listing[] =
+        "burst 7\ntaken 3 kept 1 dropped 2\nshot 2 at 32 length 3\n";
+    const size_t length = sizeof listing - 1;
+    const char *wrong = NULL;
+    uint8_t *text = filled(length);
+
+    *l->size = FILL_NUMBER;
+    if (burst_list(l->file, TOTAL, text, length - 1, l->size) !=
+            BURST_OUTPUT_TOO_SHORT ||
+        *l->size != 0 || !is_filled(text, length)) {
+        wrong = "a text one byte short was not refused with 5";
+    } else if (burst_list(l->file, TOTAL, text, length, l->size) != BURST_DONE ||
+               *l->size != length || memcmp(text, listing, length) != 0) {
+        wrong = "the listing differs";
+    }
+    free(text);
+    return wrong;
+}
+
 /* Every cut of the file, each on its own piece of the heap: 12. */
 static const char *read_cut(struct lent *l)
 {
@@ -307,7 +407,7 @@ static const char *read_cut(struct lent *l)
 int main(void)
 {
     static const char *(*const steps[])(struct lent *) = {
-        record, record_short, read_back, read_changed, read_cut,
+        record, record_short, record_parts, record_no_call, read_back, read_list, read_changed, read_cut,
     };
     struct lent l = lend();
     const char *wrong = NULL;

@@ -28,6 +28,7 @@ extern "C" {
         buffer_len: usize,
         answers: *mut u8,
         answers_len: usize,
+        whole: *mut u32,
     ) -> usize;
 
     fn burst_check(
@@ -45,7 +46,7 @@ extern "C" {
         key_len: usize,
         file: *const u8,
         file_len: usize,
-        place: u16,
+        place: usize,
         out: *mut u8,
         out_len: usize,
         mark: *mut u32,
@@ -58,7 +59,7 @@ extern "C" {
         key_len: usize,
         file: *const u8,
         file_len: usize,
-        place: u16,
+        place: usize,
         mark: *mut u32,
         offset: *mut u32,
         size: *mut u32,
@@ -77,7 +78,8 @@ extern "C" {
 // is null. The calls write only to the slices that are lent to be changed, and
 // to the lent numbers; none of these overlaps anything else.
 
-/// Begin and the calls of a script: the count of answers written.
+/// Begin and the calls of a script: the count of answers written, and the
+/// number that says whether the whole script was performed.
 pub fn replay(
     key: &[u8],
     burst_number: u64,
@@ -85,8 +87,9 @@ pub fn replay(
     script: &[u8],
     buffer: &mut [u8],
     answers: &mut [u8],
-) -> usize {
-    unsafe {
+) -> (usize, u32) {
+    let mut whole = LentNumber::default();
+    let count = unsafe {
         burst_replay(
             key.as_ptr(),
             key.len(),
@@ -99,8 +102,10 @@ pub fn replay(
             buffer.len(),
             answers.as_mut_ptr(),
             answers.len(),
+            whole.pointer(),
         )
-    }
+    };
+    (count, whole.after())
 }
 
 /// Number and mark of checking a file.
@@ -121,7 +126,7 @@ pub fn check(key: &[u8], file: &[u8], info: &mut [u8]) -> (u32, u32) {
 }
 
 /// Number and mark of fetching the picture of a place.
-pub fn fetch(key: &[u8], file: &[u8], place: u16, out: &mut [u8], info: &mut [u8]) -> (u32, u32) {
+pub fn fetch(key: &[u8], file: &[u8], place: usize, out: &mut [u8], info: &mut [u8]) -> (u32, u32) {
     let mut mark = LentNumber::default();
     let number = unsafe {
         burst_fetch(
@@ -141,7 +146,7 @@ pub fn fetch(key: &[u8], file: &[u8], place: u16, out: &mut [u8], info: &mut [u8
 }
 
 /// The sealed record of a place.
-pub fn record(key: &[u8], file: &[u8], place: u16) -> RecordPart {
+pub fn record(key: &[u8], file: &[u8], place: usize) -> RecordPart {
     let mut mark = LentNumber::default();
     let (mut offset, mut size) = (LentNumber::default(), LentNumber::default());
     let number = unsafe {

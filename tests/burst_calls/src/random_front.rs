@@ -73,7 +73,7 @@ pub fn random_front(generator: &mut SplitMix64) -> Draft {
 pub fn front_call(generator: &mut SplitMix64, what: &dyn Fn() -> String) -> [u32; 4] {
     let draft = random_front(generator);
     let file = draft.file();
-    let place = generator.below(7) as u16;
+    let place = generator.below(7);
     let lengths = (generator.below(40), FETCH_INFO);
     let what = || format!("{}, front {:?} {:?}", what(), draft.header, draft.entries);
     let checked = check_check(&KEY, &file, CHECK_INFO, &what);

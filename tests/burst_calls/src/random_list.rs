@@ -5,7 +5,7 @@ use crate::list::ROOM;
 use crate::listing::{check_list, LIST_BYTES};
 use crate::reading::{check_gives_back, check_reference_gives_back};
 use crate::recording::{Performed, Recording};
-use crate::script::push_call;
+use crate::script::{push_call, CLOSE, DROP, KEEP};
 use reference::burst::plain::run;
 use reference::burst::Call;
 use reference::random::SplitMix64;
@@ -73,18 +73,33 @@ fn random_calls(generator: &mut SplitMix64) -> Vec<Call> {
     calls
 }
 
+/// A byte that is no call.
+fn no_call(generator: &mut SplitMix64) -> u8 {
+    match generator.below(2) {
+        0 => 3 + generator.below(253) as u8,
+        _ => one_of(generator, &[3, 4, 128, 130, 254, 255]),
+    }
+}
+
 /// The calls as a script. One in eight is cut, one in sixteen goes on with
-/// bytes of any kind.
+/// bytes of any kind, and one in sixteen has a byte that is no call in front of
+/// a call or instead of its own.
 fn random_script(generator: &mut SplitMix64, calls: &[Call]) -> Vec<u8> {
     let mut script = Vec::new();
+    let mut starts = Vec::new();
     for call in calls {
-        let keep = match generator.below(2) {
-            0 => 2 + generator.below(254) as u8,
-            _ => one_of(generator, &[2, 3, 128, 255]),
-        };
-        push_call(&mut script, call, keep);
+        starts.push(script.len());
+        push_call(&mut script, call);
     }
     match generator.below(16) {
+        3 if !starts.is_empty() => {
+            let at = one_of(generator, &starts);
+            let byte = no_call(generator);
+            match generator.below(2) {
+                0 => script[at] = byte,
+                _ => script.insert(at, byte),
+            }
+        }
         0 => script.truncate(generator.below(script.len() + 1)),
         1 => {
             let cut = generator.below(script.len().min(40) + 1);
@@ -172,8 +187,8 @@ fn random_script_bytes(generator: &mut SplitMix64) -> Vec<u8> {
     let mut script = Vec::new();
     for _ in 0..generator.below(60) {
         match generator.below(12) {
-            0..3 => script.push(0),
-            3 => script.push(one_of(generator, &[1, 1, 0, 2])),
+            0..3 => script.push(DROP),
+            3 => script.push(one_of(generator, &[CLOSE, CLOSE, DROP, KEEP])),
             4..6 => script.push(generator.next_word() as u8),
             _ => {
                 let stamp = one_of(generator, &[16, 16, 16, 16, 0, 15, 17, 255]);
@@ -183,7 +198,11 @@ fn random_script_bytes(generator: &mut SplitMix64) -> Vec<u8> {
                     2 => 1 << (8 * generator.below(4)),
                     _ => generator.below(40) as u32,
                 };
-                script.extend([2 + generator.below(254) as u8, stamp]);
+                let first = match generator.below(20) {
+                    0 => no_call(generator),
+                    _ => KEEP,
+                };
+                script.extend([first, stamp]);
                 script.extend(picture.to_le_bytes());
                 let present = usize::from(stamp) + generator.below(40);
                 script.extend(generator.next_bytes(present));

@@ -4,6 +4,7 @@
 use crate::list::{bytes, file_of, KEY};
 use crate::listing::{check_list, LIST_BYTES};
 use crate::reading::{check_check, check_fetch, check_record, CHECK_INFO, FETCH_INFO};
+use reference::burst::lister::list;
 use reference::random::SplitMix64;
 
 /// The number itself, one less, one more, or anything below 100.
@@ -70,11 +71,15 @@ fn random_key(generator: &mut SplitMix64) -> Vec<u8> {
     key
 }
 
-fn random_place(generator: &mut SplitMix64) -> u16 {
-    match generator.below(10) {
-        0 => generator.next_word() as u16,
-        1 => 256 * generator.below(256) as u16,
-        _ => generator.below(7) as u16,
+/// Mostly a small one, but also any 16 bits, and any 64: small ones with a bit
+/// above the 16th among them.
+fn random_place(generator: &mut SplitMix64) -> usize {
+    match generator.below(12) {
+        0 => generator.next_word() as u16 as usize,
+        1 => 256 * generator.below(256),
+        2 => generator.next_word() as usize >> generator.below(64),
+        3 => generator.below(7) + (1 << (16 + generator.below(48))),
+        _ => generator.below(7),
     }
 }
 
@@ -91,7 +96,7 @@ pub fn read_call(generator: &mut SplitMix64, what: &dyn Fn() -> String) -> [u32;
     let place = random_place(generator);
     // The length of a picture of this list, often of the fetched one.
     let mut kept = lengths.into_iter().filter(|length| *length > 0);
-    let picture = kept.nth(usize::from(place)).unwrap_or(9);
+    let picture = kept.nth(place).unwrap_or(9);
     let out_len = around(generator, picture);
     let info_len = around(generator, FETCH_INFO);
 
@@ -100,6 +105,10 @@ pub fn read_call(generator: &mut SplitMix64, what: &dyn Fn() -> String) -> [u32;
     let checked = check_check(&key, &file, info, &what);
     let fetched = check_fetch(&key, &file, place, (out_len, info_len), &what);
     let recorded = check_record(&key, &file, place, &what);
-    let listed = check_list(&file, around(generator, LIST_BYTES), &what);
+    let room = match generator.below(4) {
+        0 => LIST_BYTES,
+        _ => around(generator, list(&file).len()),
+    };
+    let listed = check_list(&file, room, &what);
     [checked.0, fetched.0, recorded.0, listed]
 }

@@ -11,6 +11,19 @@ use reference::burst::{PlainBurst, Refusal};
 pub const CHECK_INFO: usize = 30;
 pub const FETCH_INFO: usize = 22;
 
+/// Places that are not below kept, though their low bits may be.
+pub const WIDE_PLACES: [usize; 9] = [
+    65_535,
+    65_536,
+    65_537,
+    (1 << 32) - 1,
+    1 << 32,
+    (1 << 32) + 1,
+    1 << 63,
+    (1 << 63) + 1,
+    usize::MAX,
+];
+
 /// Burst number, site mark, taken, kept, dropped.
 pub fn check_info(checked: &Checked) -> Vec<u8> {
     let mut info = checked.burst_number.to_le_bytes().to_vec();
@@ -66,7 +79,7 @@ pub fn check_check(
 pub fn check_fetch(
     key: &[u8],
     file: &[u8],
-    place: u16,
+    place: usize,
     (out_len, info_len): (usize, usize),
     what: &dyn Fn() -> String,
 ) -> (u32, u32) {
@@ -76,7 +89,7 @@ pub fn check_fetch(
         format!("{part}, fetch {place}, key {key}, out {out_len}, info {info_len}, {what}")
     };
     let given = crate::fetch(key, file, place, out.slice(), info.slice());
-    let fetched = reader::fetch(key, file, u64::from(place), out_len);
+    let fetched = reader::fetch(key, file, place as u64, out_len);
     match with_info(fetched, info_len, FETCH_INFO) {
         Ok(fetched) => {
             assert_eq!(given, (0, 0), "{}", what("number and mark"));
@@ -94,9 +107,14 @@ pub fn check_fetch(
 }
 
 /// burst_record is as the reference's record. Gives the number and the mark.
-pub fn check_record(key: &[u8], file: &[u8], place: u16, what: &dyn Fn() -> String) -> (u32, u32) {
+pub fn check_record(
+    key: &[u8],
+    file: &[u8],
+    place: usize,
+    what: &dyn Fn() -> String,
+) -> (u32, u32) {
     let given = crate::record(key, file, place);
-    let expected = reader::record(key, file, u64::from(place));
+    let expected = reader::record(key, file, place as u64);
     let (key, what) = (key.len(), what());
     assert_eq!(given, expected, "record {place}, key {key}, {what}");
     (given.number, given.mark)
@@ -116,6 +134,8 @@ pub fn check_refused(key: &[u8], file: &[u8], what: &dyn Fn() -> String) -> (u32
         (0, (0, FETCH_INFO)),
         (2, (1, FETCH_INFO - 1)),
         (65_535, (300, 0)),
+        (65_536, (300, FETCH_INFO)),
+        (usize::MAX, (0, 0)),
     ] {
         let fetched = check_fetch(key, file, place, lengths, what);
         let recorded = check_record(key, file, place, what);
@@ -127,8 +147,9 @@ pub fn check_refused(key: &[u8], file: &[u8], what: &dyn Fn() -> String) -> (u32
 }
 
 /// Some places that are not below kept are refused with 13.
-fn check_no_such_place(key: &[u8], file: &[u8], kept: u16, what: &dyn Fn() -> String) {
-    for place in [kept, kept + 1, 60, 255, 256, 256 + kept, 65_535] {
+fn check_no_such_place(key: &[u8], file: &[u8], kept: usize, what: &dyn Fn() -> String) {
+    let near = [kept, kept + 1, 60, 255, 256, 256 + kept];
+    for place in near.into_iter().chain(WIDE_PLACES) {
         let (mut out, mut info) = (Lent::of(40), Lent::of(FETCH_INFO));
         let what = || format!("place {place}, {}", what());
         let fetched = crate::fetch(key, file, place, out.slice(), info.slice());
@@ -149,7 +170,7 @@ fn check_no_such_place(key: &[u8], file: &[u8], kept: u16, what: &dyn Fn() -> St
 fn fetched(
     key: &[u8],
     file: &[u8],
-    place: u16,
+    place: usize,
     length: usize,
     what: &dyn Fn() -> String,
 ) -> Fetched {
@@ -216,7 +237,7 @@ pub fn check_gives_back(burst: &PlainBurst, file: &[u8], what: &dyn Fn() -> Stri
         offset += length + 32;
     }
     assert!(shots == burst.shots, "another list, {}", what());
-    check_no_such_place(&burst.key, file, burst.kept() as u16, what);
+    check_no_such_place(&burst.key, file, burst.kept(), what);
 }
 
 /// The reference's reader gives the list back.

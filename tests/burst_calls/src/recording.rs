@@ -24,6 +24,8 @@ pub struct Performed {
     /// for an answer.
     pub calls: Vec<Call>,
     pub answers: Vec<Answer>,
+    /// Whether the whole script was performed.
+    pub whole: bool,
     /// What the plain burst makes of these calls.
     pub plain: Option<Outcome>,
     /// The buffer after the call.
@@ -96,23 +98,25 @@ impl Recording {
         )
     }
 
-    /// Begin and the calls whose answers have room.
-    pub fn calls(&self) -> Vec<Call> {
+    /// Begin and the calls whose answers have room, and whether these are the
+    /// whole script.
+    pub fn calls(&self) -> (Vec<Call>, bool) {
         let Some(most) = (self.answers.len() / ANSWER_BYTES).checked_sub(1) else {
-            return Vec::new();
+            return (Vec::new(), false);
         };
         let begin = Call::Begin {
             key: self.key.clone(),
             burst_number: self.burst_number,
             site_mark: self.site_mark.clone(),
         };
-        [vec![begin], calls_of(&self.script, most)].concat()
+        let (calls, rest) = calls_of(&self.script, most);
+        ([vec![begin], calls].concat(), rest.is_empty())
     }
 
     /// The call does what recorder and plain burst do: answer by answer, and
     /// byte by byte in the whole buffer.
     pub fn check(&self, what: &dyn Fn() -> String) -> Performed {
-        let calls = self.calls();
+        let (calls, whole) = self.calls();
         let mut expected = self.buffer.clone();
         let recorded = recorded(&calls, &mut expected);
         let what = |part: &str| format!("{part}, {}, {}", what(), self.describe());
@@ -120,7 +124,7 @@ impl Recording {
         let lent = self.clone();
         let mut buffer = Lent::holding(&self.buffer);
         let mut answers = Lent::holding(&self.answers);
-        let count = crate::replay(
+        let given = crate::replay(
             &lent.key,
             lent.burst_number,
             &lent.site_mark,
@@ -130,7 +134,8 @@ impl Recording {
         );
         assert!(lent == *self, "an input changed, {}", what("replay"));
         answers.check_written(&answer_bytes(&recorded), &|| what("answers"));
-        assert_eq!(count, recorded.len(), "{}", what("count"));
+        let told = (recorded.len(), u32::from(whole));
+        assert_eq!(given, told, "{}", what("count and whole"));
         buffer.check_written(&expected, &|| what("buffer"));
 
         let plain = (!calls.is_empty()).then(|| run(&calls, self.buffer.len()));
@@ -144,6 +149,7 @@ impl Recording {
         Performed {
             calls,
             answers: recorded,
+            whole,
             plain,
             buffer,
         }

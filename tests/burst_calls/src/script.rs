@@ -5,17 +5,19 @@ use reference::burst::{Answer, Call};
 /// The bytes of one answer.
 pub const ANSWER_BYTES: usize = 8;
 
-/// A byte in front of a keep; any but 0 and 1 would do.
-const KEEP: u8 = 2;
+/// The bytes that are calls.
+pub const DROP: u8 = 0;
+pub const CLOSE: u8 = 1;
+pub const KEEP: u8 = 2;
 
-/// One call at the end of a script. The first byte of a keep is given.
-pub fn push_call(script: &mut Vec<u8>, call: &Call, keep: u8) {
+/// One call at the end of a script.
+pub fn push_call(script: &mut Vec<u8>, call: &Call) {
     match call {
         Call::Begin { .. } => panic!("begin stands in no script"),
-        Call::Drop => script.push(0),
-        Call::Close => script.push(1),
+        Call::Drop => script.push(DROP),
+        Call::Close => script.push(CLOSE),
         Call::Keep { stamp, picture } => {
-            script.extend([keep, stamp.len().try_into().unwrap()]);
+            script.extend([KEEP, stamp.len().try_into().unwrap()]);
             script.extend(u32::try_from(picture.len()).unwrap().to_le_bytes());
             script.extend(stamp);
             script.extend(picture);
@@ -27,19 +29,20 @@ pub fn push_call(script: &mut Vec<u8>, call: &Call, keep: u8) {
 pub fn script_of(calls: &[Call]) -> Vec<u8> {
     let mut script = Vec::new();
     for call in calls {
-        push_call(&mut script, call, KEEP);
+        push_call(&mut script, call);
     }
     script
 }
 
 /// The first call of a script, and the script after it. There is none where
-/// the script is at its end or cuts its keep.
+/// the script is at its end, cuts its keep, or goes on with a byte that is no
+/// call.
 fn first_call(script: &[u8]) -> Option<(Call, &[u8])> {
     let (first, rest) = script.split_first()?;
-    match first {
-        0 => Some((Call::Drop, rest)),
-        1 => Some((Call::Close, rest)),
-        _ => {
+    match *first {
+        DROP => Some((Call::Drop, rest)),
+        CLOSE => Some((Call::Close, rest)),
+        KEEP => {
             let (stamp_len, rest) = rest.split_first()?;
             let (picture_len, rest) = rest.split_first_chunk()?;
             let picture_len = u32::from_le_bytes(*picture_len) as usize;
@@ -48,11 +51,13 @@ fn first_call(script: &[u8]) -> Option<(Call, &[u8])> {
             let (stamp, picture) = (stamp.to_vec(), picture.to_vec());
             Some((Call::Keep { stamp, picture }, rest))
         }
+        _ => None,
     }
 }
 
-/// The calls of a script, but at most the first `most`.
-pub fn calls_of(mut script: &[u8], most: usize) -> Vec<Call> {
+/// The calls of a script, but at most the first `most`, and what is left of
+/// the script behind them.
+pub fn calls_of(mut script: &[u8], most: usize) -> (Vec<Call>, &[u8]) {
     let mut calls = Vec::new();
     while calls.len() < most {
         let Some((call, rest)) = first_call(script) else {
@@ -61,7 +66,7 @@ pub fn calls_of(mut script: &[u8], most: usize) -> Vec<Call> {
         calls.push(call);
         script = rest;
     }
-    calls
+    (calls, script)
 }
 
 /// Answers as they are written: refusal number, then shot number or total.

@@ -45,7 +45,7 @@ fn expected(lengths: &[usize], changed: &[u8], at: usize) -> (u32, u32) {
 
 /// Check is refused as the reference refuses, and fetch and record of a place
 /// as check is; nothing is written. Gives the number and the mark.
-fn refused_at(file: &[u8], place: u16, what: &dyn Fn() -> String) -> (u32, u32) {
+fn refused_at(file: &[u8], place: usize, what: &dyn Fn() -> String) -> (u32, u32) {
     let refused = check_check(&KEY, file, CHECK_INFO, what);
     let (mut out, mut info) = (Lent::of(129), Lent::of(FETCH_INFO));
     let fetched = burst_calls::fetch(&KEY, file, place, out.slice(), info.slice());
@@ -79,7 +79,7 @@ fn bytes_at(
     values: impl Fn(u8) -> Vec<u8>,
 ) {
     let kept = lengths.iter().filter(|length| **length > 0).count();
-    let mut places = (0..=kept as u16).cycle();
+    let mut places = (0..=kept).cycle();
     let mut changed = file.to_vec();
     for at in offsets {
         for value in values(file[at]) {

@@ -59,7 +59,7 @@ fn made(burst_number: u64, lengths: &[usize], total: usize) -> Vec<u8> {
 
 /// Fetch into exactly the picture's length, one byte less, and one more; the
 /// info exact, one byte less, and one more.
-fn check_sizes(file: &[u8], place: u16, length: usize) {
+fn check_sizes(file: &[u8], place: usize, length: usize) {
     let what = || format!("{} bytes", file.len());
     for (out_len, info_len, number) in [
         (length, FETCH_INFO, 0),
@@ -134,7 +134,7 @@ fn longest_list() -> Vec<Call> {
 /// alone, to spare memory.
 fn longest_recorded(calls: &[Call], buffer_len: usize) -> (Vec<u8>, Vec<u8>) {
     let mut recording = Recording::new(12, script_of(calls), buffer_len, 8 * 63);
-    let count = burst_calls::replay(
+    let given = burst_calls::replay(
         &recording.key,
         recording.burst_number,
         &recording.site_mark,
@@ -142,7 +142,7 @@ fn longest_recorded(calls: &[Call], buffer_len: usize) -> (Vec<u8>, Vec<u8>) {
         &mut recording.buffer,
         &mut recording.answers,
     );
-    assert_eq!(count, 63);
+    assert_eq!(given, (63, 1));
     (recording.answers, recording.buffer)
 }
 

@@ -17,8 +17,8 @@ fn recorded() {
     let (mut buffer, mut answers) = (vec![0xA5; 111], vec![0; 40]);
     let key = counting(0x00, 16);
     let site_mark = counting(0x10, 16);
-    let count = replay(&key, 7, &site_mark, &script, &mut buffer, &mut answers);
-    assert_eq!(count, 5);
+    let given = replay(&key, 7, &site_mark, &script, &mut buffer, &mut answers);
+    assert_eq!(given, (5, 1));
     assert_eq!(buffer, worked_file());
 }
 

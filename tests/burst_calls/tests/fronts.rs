@@ -443,7 +443,7 @@ fn random_changes() {
             wrong[at] = generator.next_word() as u8 >> generator.below(8);
         }
         let what = || format!("change {number}, seed {:#x}", SEED + number);
-        let place = generator.below(3) as u16;
+        let place = generator.below(3);
         let (checked, _) = check_check(&KEY, &wrong, CHECK_INFO, &what);
         check_fetch(&KEY, &wrong, place, (7, 22), &what);
         check_record(&KEY, &wrong, place, &what);

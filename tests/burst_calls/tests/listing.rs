@@ -5,17 +5,18 @@ use std::collections::BTreeSet;
 
 use burst_calls::draft::{base, draft, Draft};
 use burst_calls::list::file_of;
-use burst_calls::listing::{check_list, check_text, BROKEN, LIST_BYTES, TOO_LONG};
+use burst_calls::listing::{check_list, check_rooms, check_text, BROKEN, LIST_BYTES, TOO_LONG};
 use burst_calls::page::worked_file;
 use burst_calls::random_front::random_front;
+use reference::burst::lister::list;
 use reference::random::SplitMix64;
 
 /// The text of the worked file.
 const EXAMPLE: &str = "burst 7\ntaken 3 kept 1 dropped 2\nshot 2 at 32 length 3\n";
 
-/// burst_list gives this text into an output of the shortest length.
+/// burst_list gives this text, and 5 exactly where it does not fit.
 fn assert_text(file: &[u8], expected: &str, what: &str) {
-    check_text(file, LIST_BYTES, expected, &|| what.into());
+    check_rooms(file, expected, &|| what.into());
 }
 
 /// Shots 1, 2, 3 and so on with pictures of these lengths, none dropped.
@@ -97,9 +98,11 @@ fn sixty_long_lines() {
     assert_text(&file.unsealed(), &text, "60 shots");
 }
 
-/// The text needs less, but 4,800 bytes are asked for.
+/// Every room around each text: 5 exactly where the text does not fit, and then
+/// nothing is written.
 #[test]
 fn room_for_the_text() {
+    assert_eq!([EXAMPLE, BROKEN, TOO_LONG].map(str::len), [55, 9, 15]);
     let long = all_kept(&[70_000]).unsealed();
     let broken = base().unsealed()[1..].to_vec();
     for (file, text) in [
@@ -108,17 +111,25 @@ fn room_for_the_text() {
         (vec![], BROKEN),
         (long, TOO_LONG),
     ] {
-        // Below 4,800 all are refused with 5.
-        for room in [0, 1, 9, 55, 56, 109, 4_096, 4_798, 4_799] {
-            check_text(&file, room, text, &|| "refused".into());
-        }
-        for room in [4_800, 4_801, 5_000, 65_536, 70_336] {
-            check_text(&file, room, text, &|| "later bytes".into());
+        for room in (0..120).chain([4_096, 4_799, 4_800, 4_801, 65_536, 70_336]) {
+            check_text(&file, room, text, &|| "room".into());
         }
     }
-    let mut text = [0; 4_799];
+    // Whole listings of 0 to 60 lines.
+    for kept in [0, 1, 2, 9, 10, 11, 59, 60] {
+        let file = all_kept(&vec![7; kept]).unsealed();
+        let text = list(&file);
+        assert_eq!(text.lines().count(), 2 + kept);
+        for room in text.len() - 40..text.len() + 3 {
+            check_text(&file, room, &text, &|| format!("{kept} lines"));
+        }
+    }
+    let mut text = [0; 54];
     let refused = burst_calls::list_front(&worked_file(), &mut text);
-    assert_eq!((refused, text), ((5, 0), [0; 4_799]));
+    assert_eq!((refused, text), ((5, 0), [0; 54]));
+    let mut text = [0; 55];
+    let given = burst_calls::list_front(&worked_file(), &mut text);
+    assert_eq!((given, &text[..]), ((0, 55), EXAMPLE.as_bytes()));
 }
 
 /// 65,536 bytes are listed, more are not; a broken front comes after that.
@@ -201,8 +212,11 @@ fn random_right_lists() {
         let mut right = draft(taken, &kept);
         right.header.burst_number = generator.next_word() >> generator.below(64);
         let what = || format!("seed {:#x}", SEED + round);
-        let room = LIST_BYTES + generator.below(3);
-        assert_eq!(check_list(&right.unsealed(), room, &what), 0, "{}", what());
+        let file = right.unsealed();
+        // One byte less than the text, the text, one more, two more.
+        let more = generator.below(4);
+        let listed = check_list(&file, list(&file).len() + more - 1, &what);
+        assert_eq!(listed, if more == 0 { 5 } else { 0 }, "{}", what());
     }
 }
 

@@ -15,19 +15,20 @@ const FAR: usize = 1 << 32;
 /// The front of the long slice that a test looks at.
 const NEAR: usize = 4_096;
 
-/// Begin and a script: the answers, as numbers and shots or totals.
+/// Begin and a script: the answers, as numbers and shots or totals, and whether
+/// the whole script was performed.
 fn replayed(
     key: &[u8],
     site_mark: &[u8],
     script: &[u8],
     buffer: &mut [u8],
     answers: &mut [u8],
-) -> Vec<(u32, u32)> {
-    let count = burst_calls::replay(key, 7, site_mark, script, buffer, answers);
+) -> (Vec<(u32, u32)>, u32) {
+    let (count, whole) = burst_calls::replay(key, 7, site_mark, script, buffer, answers);
     let four = |bytes: &[u8]| u32::from_le_bytes(bytes.try_into().unwrap());
     let answers = answers.chunks(8).take(count);
     let answers = answers.map(|answer| (four(&answer[..4]), four(&answer[4..])));
-    answers.collect()
+    (answers.collect(), whole)
 }
 
 /// The long slice with these bytes at its front.
@@ -56,7 +57,7 @@ fn keys_and_site_marks(long: &mut [u8]) {
     let key = &long[..FAR + 16];
     let (mut buffer, mut answers, mut info) = ([5; 64], [5; 16], [5; CHECK_INFO]);
     let answered = replayed(key, &SITE_MARK, &[1], &mut buffer, &mut answers);
-    assert_eq!(answered, [(1, 0), (8, 0)]);
+    assert_eq!(answered, (vec![(1, 0), (8, 0)], 1));
     assert_eq!(burst_calls::check(key, &file, &mut info), (1, 0));
     let fetched = burst_calls::fetch(key, &file, 0, &mut buffer, &mut info);
     assert_eq!(fetched, (1, 0));
@@ -68,7 +69,7 @@ fn keys_and_site_marks(long: &mut [u8]) {
     };
     assert_eq!(burst_calls::record(key, &file, 0), refused);
     let answered = replayed(&KEY, key, &[1], &mut buffer, &mut answers);
-    assert_eq!(answered, [(3, 0), (8, 0)]);
+    assert_eq!(answered, (vec![(3, 0), (8, 0)], 1));
     assert_eq!((buffer, info), ([5; 64], [5; CHECK_INFO]));
 }
 
@@ -76,7 +77,7 @@ fn keys_and_site_marks(long: &mut [u8]) {
 /// 2 to the 32nd + 8 bytes.
 fn buffers_and_answers(long: &mut [u8]) {
     let script = script_of(&shots_of(&[0, 3, 0]));
-    let expected = [(0, 0), (0, 1), (0, 2), (0, 3), (0, 111)];
+    let expected = (vec![(0, 0), (0, 1), (0, 2), (0, 3), (0, 111)], 1);
     let mut answers = [5; 40];
     let buffer = &mut with_front(long, &[9; 200])[..FAR + 10];
     let answered = replayed(&KEY, &SITE_MARK, &script, buffer, &mut answers);
@@ -102,17 +103,17 @@ fn scripts(long: &mut [u8]) {
     let script = &long[..=end];
     let (mut buffer, mut answers) = ([5; 64], [5; 32]);
     let answered = replayed(&KEY, &SITE_MARK, script, &mut buffer, &mut answers);
-    assert_eq!(answered, [(0, 0), (10, 0), (0, 64)]);
+    assert_eq!(answered, (vec![(0, 0), (10, 0), (0, 64)], 1));
     let cut = &long[..end - 1];
     let answered = replayed(&KEY, &SITE_MARK, cut, &mut buffer, &mut answers);
-    assert_eq!(answered, [(0, 0)]);
+    assert_eq!(answered, (vec![(0, 0)], 0));
     long[end] = 0;
 
     // A script of zeros: as many drops as there is room for answers.
     let script = &with_front(long, &[])[..FAR + 3];
     let mut answers = [5; 8 * 65];
-    let answered = replayed(&KEY, &SITE_MARK, script, &mut buffer, &mut answers);
-    assert_eq!(answered.len(), 65);
+    let (answered, whole) = replayed(&KEY, &SITE_MARK, script, &mut buffer, &mut answers);
+    assert_eq!((answered.len(), whole), (65, 0));
     assert_eq!(answered[60..], [(0, 60), (9, 0), (9, 0), (9, 0), (9, 0)]);
 }
 

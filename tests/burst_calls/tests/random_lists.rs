@@ -8,7 +8,7 @@ use burst_calls::random_list::{
     check_recording, random_recording, recording_of_any_bytes, recording_with,
 };
 use burst_calls::recording::{Performed, Recording};
-use burst_calls::script::{calls_of, push_call};
+use burst_calls::script::{calls_of, KEEP};
 use reference::burst::Call;
 use reference::random::SplitMix64;
 
@@ -40,8 +40,12 @@ struct Seen {
     nothing_performed: usize,
     /// The script has more calls than there is room for answers.
     room_ran_out: usize,
-    /// The script goes on after the last call that it holds whole.
+    /// The script goes on after the last call that it holds whole: with a keep
+    /// that its end cuts, or with a byte that is no call.
     cut: usize,
+    no_call: usize,
+    /// The whole script was performed.
+    whole: usize,
 }
 
 impl Seen {
@@ -56,13 +60,14 @@ impl Seen {
         };
         self.files += usize::from(plain.file.is_some());
         self.open += usize::from(!plain.burst.closed);
-        let all = calls_of(&recording.script, usize::MAX);
+        let (all, rest) = calls_of(&recording.script, usize::MAX);
         self.room_ran_out += usize::from(all.len() + 1 > performed.calls.len());
-        let mut whole = Vec::new();
-        for call in &all {
-            push_call(&mut whole, call, 2);
+        match rest.first() {
+            None => {}
+            Some(&KEEP) => self.cut += 1,
+            Some(_) => self.no_call += 1,
         }
-        self.cut += usize::from(whole.len() < recording.script.len());
+        self.whole += usize::from(performed.whole);
     }
 
     /// Every number that a call can be answered with came up. With one buffer
@@ -84,10 +89,10 @@ impl Seen {
             assert!(*count >= least, "{answer:?} came {count} times");
         }
         let [files, open] = [self.files, self.open];
-        let [nothing, room, cut] = [self.nothing_performed, self.room_ran_out, self.cut];
-        for count in [files, open, nothing, room, cut] {
-            assert!(count >= least, "{files} {open} {nothing} {room} {cut}");
-        }
+        let [nothing, room] = [self.nothing_performed, self.room_ran_out];
+        let [cut, no_call, whole] = [self.cut, self.no_call, self.whole];
+        let counts = [files, open, nothing, room, cut, no_call, whole];
+        assert!(counts.iter().all(|count| *count >= least), "{counts:?}");
     }
 }
 
@@ -118,7 +123,8 @@ fn scripts_of_any_bytes() {
         let what = || format!("script {number}, seed {seed:#x}");
         try_recording(&recording, &mut seen, &what);
     }
-    let least = [seen.files, seen.open, seen.nothing_performed, seen.cut];
+    let mut least = vec![seen.files, seen.open, seen.nothing_performed];
+    least.extend([seen.cut, seen.no_call, seen.whole]);
     assert!(least.iter().all(|count| *count > 100), "{least:?}");
 }
 

@@ -143,8 +143,8 @@ fn slices_at_any_address() {
         let (key, file) = (&key[shift..], &file[shift..]);
         let (mut buffer, mut answers) = (vec![1; file.len()], [1; 40]);
         let (site_mark, script) = (&site_mark[shift..], &script[shift..]);
-        let count = burst_calls::replay(key, 62, site_mark, script, &mut buffer, &mut answers);
-        assert_eq!(count, 5, "shift {shift}");
+        let given = burst_calls::replay(key, 62, site_mark, script, &mut buffer, &mut answers);
+        assert_eq!(given, (5, 1), "shift {shift}");
         assert!(buffer == file, "shift {shift}");
         let what = || format!("shift {shift}");
         check_check(key, file, CHECK_INFO, &what);

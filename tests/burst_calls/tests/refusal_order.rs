@@ -5,7 +5,9 @@ use std::collections::HashSet;
 
 use burst_calls::lent::Lent;
 use burst_calls::list::{bytes, file_of, keep, shots_of, KEY};
-use burst_calls::reading::{check_check, check_fetch, check_record, CHECK_INFO, FETCH_INFO};
+use burst_calls::reading::{
+    check_check, check_fetch, check_record, CHECK_INFO, FETCH_INFO, WIDE_PLACES,
+};
 use burst_calls::recording::Recording;
 use burst_calls::script::script_of;
 use reference::burst::reader::RecordPart;
@@ -101,7 +103,7 @@ fn check_in_the_order_1_12_7_5() {
 
 #[test]
 fn fetch_in_the_order_of_check_13_5() {
-    let places = [0, 1, 2, 3, 4, 256, 65_535];
+    let places = [0, 1, 2, 3, 65_535, 65_536, (1 << 32) + 1, usize::MAX];
     let infos = [FETCH_INFO, FETCH_INFO + 1, FETCH_INFO - 1, 0];
     let mut subsets = HashSet::new();
     let limits = [KEYS.len(), FRONTS, 2, 2, 2, places.len(), 4, infos.len()];
@@ -109,7 +111,7 @@ fn fetch_in_the_order_of_check_13_5() {
         // Without the picture's place, an output of 0 bytes stands for one
         // that is too short.
         let place = places[p];
-        let picture = PICTURES.get(usize::from(place)).copied();
+        let picture = PICTURES.get(place).copied();
         let needed = picture.unwrap_or(1);
         let out_len = [needed, needed + 9, needed - 1, 0][o];
         let file = file(front, c == 1, r == 1, s == 1);
@@ -130,7 +132,8 @@ fn fetch_in_the_order_of_check_13_5() {
 
 #[test]
 fn record_in_the_order_of_check_13() {
-    let places = [0, 1, 2, 3, 4, 256, 65_535];
+    let mut places = vec![0, 1, 2, 3, 4, 60, 256];
+    places.extend(WIDE_PLACES);
     let mut subsets = HashSet::new();
     for [k, front, c, r, s, p] in choices([KEYS.len(), FRONTS, 2, 2, 2, places.len()]) {
         let place = places[p];
@@ -256,7 +259,7 @@ fn drop_and_close() {
 fn every_place_of_a_damaged_file() {
     let damaged = file(0, false, false, true);
     let whole = file(0, false, false, false);
-    for place in (0..300).chain([0x0100, 0x8000, 0xFF00, 0xFFFF]) {
+    for place in (0..300).chain([0x8000, 0xFF00]).chain(WIDE_PLACES) {
         let (mut out, mut info) = (Lent::of(5), Lent::of(FETCH_INFO));
         let refused = burst_calls::fetch(&KEY, &damaged, place, out.slice(), info.slice());
         assert_eq!(refused, (7, 4), "place {place}");

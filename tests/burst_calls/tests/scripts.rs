@@ -3,7 +3,7 @@
 
 use burst_calls::list::{bytes, keep};
 use burst_calls::recording::Recording;
-use burst_calls::script::{push_call, script_of};
+use burst_calls::script::{script_of, CLOSE, DROP, KEEP};
 use reference::burst::Call;
 
 /// Drop, two keeps, a drop, close, and three calls after it.
@@ -24,6 +24,7 @@ fn answers_of_a_list() {
     assert_eq!(performed.numbers(), NUMBERS);
     assert_eq!(performed.shots_and_totals(), SHOTS_AND_TOTAL);
     assert_eq!(performed.file().map(<[u8]>::len), Some(175));
+    assert!(performed.whole);
 }
 
 /// Every length of the answers: only calls whose answers have room are
@@ -38,6 +39,8 @@ fn every_room_for_answers() {
         assert_eq!(performed.numbers(), NUMBERS[..count], "room {room}");
         // The close is the sixth answer.
         assert_eq!(performed.file().is_some(), count >= 6, "room {room}");
+        // The last call is the ninth: below 72 bytes it is not performed.
+        assert_eq!(performed.whole, room >= 72, "room {room}");
     }
 }
 
@@ -54,18 +57,94 @@ fn every_cut_of_a_script() {
         let performed = Recording::new(3, cut, 200, 80).check(&|| "cut script".into());
         let count = 1 + ends.iter().filter(|end| **end <= length).count();
         assert_eq!(performed.numbers(), NUMBERS[..count], "cut to {length}");
+        let whole = length == 0 || ends.contains(&length);
+        assert_eq!(performed.whole, whole, "cut to {length}");
     }
 }
 
-/// Every byte but 0 and 1 is in front of a keep.
+/// Only 0, 1 and 2 are calls: any other byte ends the script where it stands,
+/// whatever follows, and the script was not performed whole.
 #[test]
-fn every_first_byte_of_a_keep() {
-    for first in 2..=255 {
-        let mut script = vec![0];
-        push_call(&mut script, &keep(1, 3), first);
-        script.push(1);
-        let performed = Recording::new(3, script, 111, 32).check(&|| format!("first {first}"));
-        assert_eq!(performed.shots_and_totals(), [0, 1, 2, 111], "{first}");
+fn every_byte_that_is_no_call() {
+    let rests = [
+        vec![],
+        vec![CLOSE],
+        vec![DROP; 9],
+        script_of(&[keep(1, 3), Call::Close])[1..].to_vec(),
+    ];
+    for first in 3..=255 {
+        for rest in &rests {
+            let script = [&[DROP, first], &rest[..]].concat();
+            let performed = Recording::new(3, script, 111, 32).check(&|| format!("first {first}"));
+            assert_eq!(performed.shots_and_totals(), [0, 1], "{first}");
+            assert!(!performed.whole, "{first}");
+        }
+        let performed = Recording::new(3, vec![first], 111, 32).check(&|| format!("only {first}"));
+        assert_eq!((performed.numbers(), performed.whole), (vec![0], false));
+    }
+    // Such a byte inside a stamp or a picture is theirs.
+    let picture: Vec<u8> = (0..=255).collect();
+    let stamp = bytes(255, 16);
+    let calls = [Call::Keep { stamp, picture }, Call::Close];
+    let performed = Recording::new(3, script_of(&calls), 500, 32).check(&|| "inside".into());
+    assert_eq!(performed.shots_and_totals(), [0, 1, 364]);
+    assert!(performed.whole);
+}
+
+/// The names of the calls in burst.h.
+#[test]
+fn the_three_calls() {
+    assert_eq!([DROP, CLOSE, KEEP], [0, 1, 2]);
+    let mut script = vec![DROP, KEEP, 16, 3, 0, 0, 0];
+    script.extend(bytes(7, 19));
+    script.push(CLOSE);
+    let performed = Recording::new(3, script, 111, 32).check(&|| "three calls".into());
+    assert_eq!(performed.shots_and_totals(), [0, 1, 2, 111]);
+    assert!(performed.whole);
+}
+
+/// A close that is dropped is not silent: without room for its answer, behind
+/// a keep that says too much, behind a byte that is no call.
+#[test]
+fn a_close_that_is_not_performed() {
+    let closed = script_of(&[Call::Drop, keep(1, 3), Call::Close]);
+    for room in [24, 25, 31, 32, 33] {
+        let performed = Recording::new(8, closed.clone(), 200, room).check(&|| "room".into());
+        assert_eq!(performed.file().is_some(), room >= 32, "room {room}");
+        assert_eq!(performed.whole, room >= 32, "room {room}");
+    }
+    // The picture is said to have two bytes more than there are with the close.
+    let mut longer = closed.clone();
+    longer[3] += 2;
+    let other = [&[DROP, 3], &closed[1..]].concat();
+    // The last byte of the picture, 59, stands where a call should.
+    let mut shorter = closed.clone();
+    shorter[3] -= 1;
+    for (script, answers) in [(longer, 2), (other, 2), (shorter, 3)] {
+        let performed = Recording::new(8, script, 200, 64).check(&|| "lost close".into());
+        assert!(performed.file().is_none() && !performed.whole);
+        assert_eq!(performed.answers.len(), answers);
+    }
+}
+
+/// Whole speaks of the script: refused calls are performed, begin's among
+/// them, and where begin has no room an empty script is not whole.
+#[test]
+fn refused_calls_are_performed() {
+    let calls = [keep(1, 0), Call::Close, Call::Close, Call::Drop];
+    for (key, buffer) in [(16, 64), (15, 64), (16, 63), (16, 0)] {
+        let mut recording = Recording::new(9, script_of(&calls), buffer, 40);
+        recording.key.truncate(key);
+        let performed = recording.check(&|| "refused".into());
+        assert!(performed.whole && performed.answers.len() == 5);
+        assert!(performed.numbers()[4] == 8);
+        recording.answers.pop();
+        let performed = recording.check(&|| "refused, no room".into());
+        assert!(!performed.whole && performed.answers.len() == 4);
+    }
+    for room in 0..20 {
+        let performed = Recording::new(9, vec![], 64, room).check(&|| "empty".into());
+        assert_eq!(performed.whole, room >= 8, "room {room}");
     }
 }
 
@@ -106,10 +185,11 @@ fn keeps_that_say_too_much() {
         assert_eq!(performed.shots_and_totals(), [0, 1], "{length}");
     }
     let mut short = vec![0];
-    for byte in [9, 16, 1, 0, 0] {
+    for byte in [KEEP, 16, 1, 0, 0] {
         short.push(byte);
         let performed = Recording::new(5, short.clone(), 200, 64).check(&|| "no lengths".into());
         assert_eq!(performed.shots_and_totals(), [0, 1], "{short:?}");
+        assert!(!performed.whole, "{short:?}");
     }
 }
 
@@ -120,7 +200,7 @@ fn no_room_at_all() {
         for buffer in [0, 63, 64, 200] {
             let recording = Recording::new(6, script_of(&calls()), buffer, room);
             let performed = recording.check(&|| "no room".into());
-            assert!(performed.calls.is_empty());
+            assert!(performed.calls.is_empty() && !performed.whole);
             assert_eq!(performed.buffer, recording.buffer);
         }
     }

@@ -7,7 +7,7 @@ use std::fs;
 use std::path::{Path, PathBuf};
 
 use burst_calls::lent::check_same;
-use burst_calls::listing::{check_text, LIST_BYTES};
+use burst_calls::listing::check_rooms;
 use lister::program::listed;
 use lister::stored::all;
 use reference::burst::lister::list;
@@ -69,7 +69,7 @@ fn library_and_reference_print_what_is_stored() {
         let file = read(name, "burst");
         let text = String::from_utf8(read(name, "txt")).unwrap();
         assert_eq!(list(&file), text, "{name}");
-        check_text(&file, LIST_BYTES, &text, &|| name.into());
+        check_rooms(&file, &text, &|| name.into());
     }
 }
 

@@ -52,6 +52,7 @@ fn try_recording(recording: &Recording, what: &dyn Fn() -> String, tally: &mut T
         };
         tally.add(name, answer.number);
     }
+    tally.add("whole", u32::from(performed.whole));
 }
 
 /// A list of strip calls, or calls on a state that anybody may make.

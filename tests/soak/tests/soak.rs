@@ -7,8 +7,9 @@ use soak::{run, try_case};
 
 /// Every number of every call but 4, which takes data of 67,108,865 bytes where
 /// no strip state counts them, and close's 11, which no list can meet that has
-/// one buffer. List's 12 is the text `front 12`.
-const EXPECTED: [(&str, &[u32]); 13] = [
+/// one buffer. List's 12 is the text `front 12`; whole says of a script whether
+/// all of it was performed.
+const EXPECTED: [(&str, &[u32]); 14] = [
     ("begin", &[0, 1, 3, 11]),
     ("check", &[0, 1, 5, 7, 12]),
     ("close", &[0, 8]),
@@ -22,6 +23,7 @@ const EXPECTED: [(&str, &[u32]); 13] = [
     ("seal", &[0, 1, 2, 3, 5]),
     ("start", &[0, 1, 2, 3, 5]),
     ("strip", &[0, 4, 5, 14]),
+    ("whole", &[0, 1]),
 ];
 
 #[test]

@@ -51,10 +51,11 @@ pub enum Wanted {
     All { folder: PathBuf },
 }
 
-/// A place as it was typed; it has a number if that fits 16 bits.
+/// A place as it was typed, and its number. One that is above every number the
+/// library takes is handed over as the largest, which no burst has either.
 pub struct PlaceTyped {
     pub typed: String,
-    pub number: Option<u16>,
+    pub number: usize,
 }
 
 /// An option and how its values are called.
@@ -321,7 +322,7 @@ fn read_fetch(given: Given) -> Result<Command, Failure> {
     let pictures = match (place, out, all) {
         (Some(place), Some(out), None) => {
             let typed = given.digits("--place", place)?;
-            let number = typed.parse().ok();
+            let number = typed.parse().unwrap_or(usize::MAX);
             let place = PlaceTyped { typed, number };
             Wanted::One {
                 place,

@@ -1,5 +1,10 @@
 //! The calls of include/burst.h. All unsafe code of the tool is here.
 
+/// The bytes of a script that are calls.
+pub const CALL_DROP: u8 = 0;
+pub const CALL_CLOSE: u8 = 1;
+pub const CALL_KEEP: u8 = 2;
+
 pub const MAX_PICTURE_BYTES: usize = 1_048_576;
 pub const MAX_SHOTS: usize = 60;
 pub const ANSWER_BYTES: usize = 8;
@@ -24,6 +29,7 @@ extern "C" {
         buffer_len: usize,
         answers: *mut u8,
         answers_len: usize,
+        whole: *mut u32,
     ) -> usize;
 
     fn burst_check(
@@ -41,7 +47,7 @@ extern "C" {
         key_len: usize,
         file: *const u8,
         file_len: usize,
-        place: u16,
+        place: usize,
         out: *mut u8,
         out_len: usize,
         mark: *mut u32,
@@ -91,7 +97,8 @@ fn number_u16(bytes: &[u8], at: usize) -> u16 {
     u16::from_le_bytes(part(bytes, at))
 }
 
-/// Begin and the calls of a script on a buffer: the count of answers written.
+/// Begin and the calls of a script on a buffer: the count of answers written,
+/// and whether the whole script was performed.
 pub fn replay(
     key: &[u8],
     burst_number: u64,
@@ -99,11 +106,13 @@ pub fn replay(
     script: &[u8],
     buffer: &mut [u8],
     answers: &mut [u8],
-) -> usize {
+) -> (usize, bool) {
+    let mut whole = 0;
     // SAFETY: each pointer comes from a slice and goes with that slice's
-    // length; a slice's pointer is never null. Buffer and answers are lent
-    // mutably, so that they overlap nothing else that is lent.
-    unsafe {
+    // length; a slice's pointer is never null, and whole is an aligned u32.
+    // Buffer and answers are lent mutably and whole is a local of this
+    // function, so that they overlap nothing else that is lent.
+    let count = unsafe {
         burst_replay(
             key.as_ptr(),
             key.len(),
@@ -116,8 +125,10 @@ pub fn replay(
             buffer.len(),
             answers.as_mut_ptr(),
             answers.len(),
+            &mut whole,
         )
-    }
+    };
+    (count, whole == 1)
 }
 
 /// Checks a whole file.
@@ -151,7 +162,7 @@ pub fn check(key: &[u8], file: &[u8]) -> Result<Checked, Refused> {
 }
 
 /// Checks a whole file, then writes the picture of a place to `out`.
-pub fn fetch(key: &[u8], file: &[u8], place: u16, out: &mut [u8]) -> Result<Fetched, Refused> {
+pub fn fetch(key: &[u8], file: &[u8], place: usize, out: &mut [u8]) -> Result<Fetched, Refused> {
     let mut mark = 0;
     let mut info = [0; FETCH_INFO_BYTES];
     // SAFETY: each pointer comes from a slice and goes with that slice's

@@ -91,11 +91,12 @@ pub fn fetch(wanted: &Fetch) -> Result<(), Failure> {
 }
 
 impl Accepted {
-    /// Fetches the picture of a place into `room`.
-    fn fetch(&self, place: u16, room: &mut [u8]) -> Result<Fetched, Failure> {
+    /// Fetches the picture of a place into `room`. A refusal names the place as
+    /// it was typed.
+    fn fetch(&self, place: usize, typed: &str, room: &mut [u8]) -> Result<Fetched, Failure> {
         let fetched = library::fetch(&self.key, &self.burst.bytes, place, room);
         fetched.map_err(|found| match found.number {
-            NO_SUCH_PLACE => self.no_such_place(&place.to_string()),
+            NO_SUCH_PLACE => self.no_such_place(typed),
             _ => refused(&self.burst.name, found),
         })
     }
@@ -108,7 +109,7 @@ impl Accepted {
 }
 
 /// A picture and where it went.
-fn fetched_line(place: u16, fetched: &Fetched, target: &Path) -> String {
+fn fetched_line(place: usize, fetched: &Fetched, target: &Path) -> String {
     let Fetched { shot, length, .. } = fetched;
     let (stamp, target) = (show_mark(&fetched.stamp), target.display());
     format!("shot {shot} place {place} length {length} stamp {stamp} to {target}\n")
@@ -120,14 +121,11 @@ fn fetch_one(
     out: &Path,
     mut outputs: Outputs,
 ) -> Result<String, Failure> {
-    // A place that does not fit 16 bits is not below kept either.
-    let Some(number) = place.number else {
-        return Err(accepted.no_such_place(&place.typed));
-    };
+    let number = place.number;
     let mut room = vec![0; MAX_PICTURE_BYTES];
     let progress = Progress::new(accepted.burst.bytes.len());
     progress.say(&format!("fetching place {number}"));
-    let fetched = accepted.fetch(number, &mut room)?;
+    let fetched = accepted.fetch(number, &place.typed, &mut room)?;
     outputs.write(out, &room[..fetched.length])?;
     outputs.place()?;
     Ok(fetched_line(number, &fetched, out))
@@ -146,9 +144,9 @@ fn fetch_all(accepted: &Accepted, folder: &Path, mut outputs: Outputs) -> Result
     let mut text = String::new();
     let mut shot_before = 0;
     outputs.make_folder(folder)?;
-    for place in 0..kept {
+    for place in 0..usize::from(kept) {
         progress.say(&format!("fetching picture {} of {kept}", place + 1));
-        let fetched = accepted.fetch(place, &mut room)?;
+        let fetched = accepted.fetch(place, &place.to_string(), &mut room)?;
         let target = picture_name(folder, fetched.shot);
         outputs.write(&target, &room[..fetched.length])?;
         text += &dropped_lines(shot_before + 1, fetched.shot);

@@ -4,13 +4,10 @@
 use crate::arguments::{Record, Shot};
 use crate::files::{self, Outputs};
 use crate::library::{self, ANSWER_BYTES, MAX_PICTURE_BYTES, MAX_SHOTS};
+use crate::library::{CALL_CLOSE, CALL_DROP, CALL_KEEP};
 use crate::messages::Failure;
 use crate::progress::{megabytes, Progress};
 use crate::secrets;
-
-const DROP: u8 = 0;
-const CLOSE: u8 = 1;
-const KEEP: u8 = 2;
 
 /// The length of a burst file with no picture.
 const EMPTY_FILE_BYTES: usize = 64;
@@ -36,7 +33,7 @@ fn script_of(shots: &[Shot]) -> Result<Script, Failure> {
     };
     for shot in shots.iter().take(MAX_SHOTS + 1) {
         match shot {
-            Shot::Drop => script.bytes.push(DROP),
+            Shot::Drop => script.bytes.push(CALL_DROP),
             Shot::Keep { stamp, picture } => {
                 // One byte more than the longest picture is enough for the
                 // library to refuse it.
@@ -46,7 +43,7 @@ fn script_of(shots: &[Shot]) -> Result<Script, Failure> {
         }
         script.calls += 1;
     }
-    script.bytes.push(CLOSE);
+    script.bytes.push(CALL_CLOSE);
     script.calls += 1;
     Ok(script)
 }
@@ -56,7 +53,7 @@ impl Script {
         // A script holds a stamp's length in one byte. Any length but 16 is
         // refused, so that 255 bytes of a longer stamp do.
         let stamp = &stamp[..stamp.len().min(255)];
-        self.bytes.extend([KEEP, stamp.len() as u8]);
+        self.bytes.extend([CALL_KEEP, stamp.len() as u8]);
         self.bytes.extend((picture.len() as u32).to_le_bytes());
         self.bytes.extend(stamp);
         self.bytes.extend(picture);
@@ -112,10 +109,10 @@ fn seal(wanted: &Record, key: &[u8], script: &Script) -> Result<Vec<u8>, Failure
     progress.say(&format!("sealing {}", megabytes(script.bytes.len())));
     let mark = &wanted.site_mark;
     let number = wanted.burst_number;
-    let count = library::replay(key, number, mark, &script.bytes, &mut buffer, &mut answers);
+    let performed = library::replay(key, number, mark, &script.bytes, &mut buffer, &mut answers);
     assert_eq!(
-        count,
-        1 + script.calls,
+        performed,
+        (1 + script.calls, true),
         "burst.h: every call that has room for its answer is performed"
     );
     let total = total(wanted, &answers)?;

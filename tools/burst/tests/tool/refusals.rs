@@ -198,7 +198,8 @@ fn a_file_longer_than_the_largest_burst_is_12() {
 #[test]
 fn a_place_not_below_kept_is_13() {
     let folder = Folder::new();
-    // 65,536 and 2^32 would be place 0 if they were cut to 16 or 32 bits.
+    // 65,536, 2^32 and 2^64 would be place 0 if they were cut to 16, 32 or 64
+    // bits.
     for place in [
         "1",
         "60",
@@ -206,7 +207,10 @@ fn a_place_not_below_kept_is_13() {
         "65536",
         "65537",
         "4294967296",
+        "4294967297",
+        "18446744073709551615",
         "18446744073709551616",
+        "18446744073709551617",
     ] {
         let line = format!("fetch --key key --place {place} --out picture 7.burst");
         let about = format!("there is no such place: {place}, in a burst with 1 kept");
