@@ -70,7 +70,7 @@ enum {
  * Any other byte ends the script, and so does a keep that is cut by the script's end. A call is performed only if its answer has room:
  * at most answers_len / 8 - 1 calls. With answers_len below 8 nothing is done, and the result is 0.
  * *whole is 1 where the whole script was performed, so that nothing of it is left behind the last call, and else 0: look at it, since a
- * close that was not performed leaves no file. Refused calls count as performed, begin's too. Where nothing is done, *whole is 0.
+ * close that was not performed leaves no file. Refused calls count as performed, a refused begin too. Where nothing is done, *whole is 0.
  * The numbers in the answers: begin 1, 3, 11; keep 8, 3, 9, 10, 11; drop 8, 9; close 8, 11; the first that holds, in this order. A
  * refused call leaves the buffer as it was. After a close that is answered 0, the first bytes of the buffer, as many as its total
  * says, are the burst's file. */
@@ -101,7 +101,7 @@ uint32_t burst_record(const uint8_t *key, size_t key_len,
 /* Writes the listing of a file, as text, to the front of text and its length to *length: burst number, counts, and a line for each kept
  * picture. It needs no key and tests the front only, so a damaged seal does not matter. A file above 65,536 bytes gives
  * "front too long", one whose front breaks a rule "front 12". Every line ends with a newline; there is no 0 byte at the end. Refusal 5
- * where the text does not fit, which it always does in BURST_LIST_BYTES; then *length is 0. */
+ * where the text does not fit; then *length is 0. BURST_LIST_BYTES bytes are enough for every text. */
 uint32_t burst_list(const uint8_t *file, size_t file_len,
                     uint8_t *text, size_t text_len, uint32_t *length);
 

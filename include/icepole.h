@@ -11,7 +11,7 @@
  * Associated data comes in two parts, ad1 and ad2, and means their joining, ad1 then ad2. Where there is one part, the other is empty.
  *
  * Result. Each function returns a refusal number, 0 when it is done. A number is given where its condition is the first in the order
- * below to hold. A refused call writes nothing, but for a start, which leaves a finished state.
+ * below to hold. A refused call writes nothing, but for a start, which leaves a finished state where state has room for one.
  *
  * Nonces. A key and a nonce may be used for one sealed message only.
  */
@@ -34,7 +34,7 @@ enum icepole_refusal {
     ICEPOLE_NONCE_LENGTH = 2,     /* the nonce has another length than the variant's */
     ICEPOLE_SECRET_LENGTH = 3,    /* the secret number has another length than the variant's */
     ICEPOLE_DATA_TOO_LONG = 4,    /* associated data (both parts together) or message, also the one that a sealed message implies or strips add up to, is above ICEPOLE_MAX_BYTES */
-    ICEPOLE_OUTPUT_TOO_SHORT = 5, /* out, in opening info, or in strips state, is too short */
+    ICEPOLE_OUTPUT_TOO_SHORT = 5, /* out, in opening info, or for strips state, is too short */
     ICEPOLE_SEALED_TOO_SHORT = 6, /* the sealed message is shorter than the sealed secret number and the tag */
     ICEPOLE_TAG_DIFFERS = 7,      /* the tag differs: not sealed under this key, nonce and associated data */
     ICEPOLE_STRIP_STATE = 14      /* the strip state is finished, or its count is above ICEPOLE_MAX_BYTES */
@@ -109,8 +109,8 @@ uint32_t icepole256a_open(const uint8_t *key, size_t key_len, const uint8_t *non
  * state holds what passes from call to call, ICEPOLE128_STRIP_STATE_BYTES bytes: the cipher's state (160), the count of message bytes
  * (8), and 0, or 1 once it is finished. It is as secret as the key, and a copy of it must never be continued a second time with other
  * bytes: both would be sealed with the same key stream. A start that is refused leaves a finished state, otherwise zero
- * (nothing where state is too short); refused strips and ends leave state and out as they were. After end the state is finished, and
- * each further strip or end is refused with 14.
+ * (nothing where state is too short); refused strips and ends leave state and out as they were. After an end that returns 0 the state
+ * is finished, and each further strip or end is refused with 14.
  */
 uint32_t icepole128_start(const uint8_t *key, size_t key_len, const uint8_t *nonce, size_t nonce_len,
                           const uint8_t *secret, size_t secret_len, const uint8_t *ad1, size_t ad1_len,

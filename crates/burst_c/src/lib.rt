@@ -11,7 +11,7 @@ ghost use Rattle.bytes_le.specs.Bytes.{putBytes};
 ghost use Rattle.icepole.specs.Sealing.{pick};
 ghost use Rattle.reader.specs.Reader.{checkMark, recordNumber, recordOffset, recordBytesIn};
 ghost use Rattle.listing.specs.Listing.{listNumber, listAnswer, listOutput};
-ghost use Rattle.replay.specs.Replay.{listOf, Replayed};
+ghost use Rattle.replay.specs.Replay.{listOf, wholeScript, Replayed};
 ghost use Rattle.burst_c.specs.Calls.{checkedBytes, fetchedBytes, checkCallNumber, checkCallInfo, placeOf, fetchCallNumber, fetchCallOutput, fetchCallInfo};
 
 // Bytes of what check and fetch put into the info.

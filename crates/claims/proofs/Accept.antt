@@ -34,7 +34,7 @@ use Rattle.reader.proofs.Parts.{first-agrees}
 use Rattle.reader.proofs.Answers.{Accepted, accepted as obeyed}
 use Rattle.trace.proofs.Shots.{Valid, pictures-gaps, pictures-append, used-least, used-append}
 use Rattle.trace.proofs.Agreement.{with}
-use Rattle.claims.specs.Demand3.{TypedCalls, Genuine, Accepts, GivenBack, burstIn, Reads, nameGiven}
+use Rattle.claims.specs.Demand3.{Slice, TypedCalls, Genuine, Accepts, GivenBack, burstIn, Reads, nameGiven}
 use Rattle.claims.proofs.Lists.{fine}
 use Rattle.claims.proofs.Back.{gives-back}
 
@@ -253,10 +253,13 @@ callsOf [] = closeBurst ∷ []
 callsOf (kept s p ∷ xs) = keepShot s p ∷ callsOf xs
 callsOf (gap ∷ xs) = dropShot byValue ∷ callsOf xs
 
-typed-calls : (xs : List Shot) → ShotBytes xs → TypedCalls (callsOf xs)
-typed-calls [] b = tt
-typed-calls (kept s p ∷ xs) b = (b .0, typed-calls xs (b .1))
-typed-calls (gap ∷ xs) b = typed-calls xs b
+slice : (b : Bytes) → AllBytes b → length b ≤ 1048576 → Slice b
+slice b h s = record { bytes = h; size = omega arith }
+
+typed-calls : (xs : List Shot) → ShotBytes xs → Valid xs → TypedCalls (callsOf xs)
+typed-calls [] b v = tt
+typed-calls (kept s p ∷ xs) b v = ((slice s (b .0 .0) (let h = v .0 .0 in omega arith), slice p (b .0 .1) (v .0 .2)), typed-calls xs (b .1) (v .1))
+typed-calls (gap ∷ xs) b v = typed-calls xs b v
 
 module _ (ed : Edition) (q : Plain) (n : ℕ) where
   close-yes : (ys : List Shot) → usedBy (ed .header) ys + 12 * pictures ys + 32 ≤ n → afterCall ed n (with q ys false) closeBurst ≡ with q ys true
@@ -461,7 +464,12 @@ module _ (key f : Bytes) (kb : AllBytes key) (fb : AllBytes f) (ok : Accepted ke
       named = less-at f fb 8 8 (let kn = fr .known in let a = fr .least in omega arith);
       reached = record { begun = begins-0; closed = ap (λ (x : Plain). x .closed) plain-is };
     };
-    typed = record { key = kb; siteMark = site-bytes; buffer = short; calls = typed-calls xs (made .bytes) };
+    typed = record {
+      key = slice key kb (let h = ok .key16 in omega arith);
+      siteMark = slice m site-bytes (let h = site16 in omega arith);
+      buffer = short;
+      calls = typed-calls xs (made .bytes) (made .valid);
+    };
     keyed = refl;
     file = ap (fileOf (editionIn f)) plain-is ∙ file-is;
   }

@@ -6,18 +6,21 @@ use mathlib.Core.Option.{some}
 use Prim.Native.Nat.{ℕ, _+_, _≤_, _<_}
 use native.Mathlib.Omega.{arith}
 use borrow.Author.Tests.{le-leb, ne-eqb}
-use lib.ListN.{length}
-use mathlib.Core.List.{[]}
-use Rattle.bytes_le.specs.Bytes.{Bytes, putBytes}
-use Rattle.icepole.specs.Answers.{fitsOutput, openAnswer, openLength, openNumber, openOutput, openRefusal, openedAnswer, sealAnswer, sealOutput, sealRefusal, tagAgrees}
+use lib.ListN.{length, take, replicate}
+use mathlib.Core.List.{[], _++_}
+use Rattle.bytes_le.specs.Bytes.{Bytes, le, putBytes}
+use Rattle.bytes_le.proofs.Laws.{take-put}
+use Rattle.icepole.specs.Answers.{fitsOutput, openAnswer, openLength, openNumber, openOutput, openRefusal, openedAnswer, sealAnswer, sealOutput, sealRefusal, tagAgrees, unless}
 use Rattle.icepole.specs.Bounds.{Bounded}
 use Rattle.icepole.specs.Sealing.{expectedTag, messageOf, same, sealed, secretOf, tag, tagPart}
 use Rattle.icepole.specs.Variants.{sizes}
 use Rattle.icepole.specs.declared.Variant.{Variant}
+use Rattle.icepole.specs.declared.Opened.{Opened}
 use Rattle.icepole.proofs.Bounds.{bounded}
 use Rattle.icepole.proofs.Numbers.{OpenFits, open-0, open-fits, seal-0}
 use Rattle.icepole.proofs.OpenedBytes.{message-bytes, secret-bytes}
 use Rattle.icepole.proofs.Opening.{length-message-of, length-sealed, length-secret-of, message-of-sealed, opened, seal-open, secret-of-sealed, tag-of-sealed}
+use Rattle.icepole_c.specs.Calls.{callInfo, callOutput, callRefusal, fitsBoth}
 use Rattle.claims.specs.Demand2.{Demand2, Genuine, Within, openDone, sealDone}
 
 module _ (v : Variant) where
@@ -72,6 +75,26 @@ module _ (v : Variant) where
     pub fits-out : (out : Bytes) → length m ≤ length out → fitsOutput v (sealed (sizes v) k n s a m) out ≡ true
     fits-out out r = le-leb (openLength v (sealed (sizes v) k n s a m)) (length out) (rw is-length r)
 
+    -- in C
+    pub open-in-c : (out info : Bytes) → length m ≤ length out → 8 + sizes v .secret ≤ length info
+        → (callRefusal v k n a (sealed (sizes v) k n s a m) out info ≡ 0)
+        × (callOutput v k n a (sealed (sizes v) k n s a m) out info ≡ putBytes out 0 m)
+        × (callInfo v k n a (sealed (sizes v) k n s a m) out info ≡ putBytes info 0 (le 8 (length m) ++ s))
+    unfolding callInfo
+    open-in-c out info r t =
+        let c = sealed (sizes v) k n s a m in
+        let e : fitsBoth v k n a c out info ≡ true = simp (le-leb (8 + sizes v .secret) (length info) t, fits-out out r) in
+        let d = open-does (fitsBoth v k n a c out info) e in
+        let b = bounded v .secret in
+        let z = w .secret-length in
+        let q : take (sizes v .secret) (putBytes (replicate 16 0) 0 s) ≡ s =
+        take-put (replicate 16 0) 0 s (sizes v .secret) (omega arith) (omega arith) in (
+          ap (λ (x : Opened). x .refusal) (d .0),
+          d .1 out,
+          ap (λ (x : Opened). unless (x .refusal) info (putBytes info 0 (le 8 (x .length) ++ take (sizes v .secret) (x .secret)))) (d .0)
+              ∙ ap (λ (x : Bytes). putBytes info 0 (le 8 (length m) ++ x)) q,
+        )
+
   module _ (k n a c : Bytes) (fits : Bool) (e : openRefusal v k n a c fits ≡ 0) where
     facts : OpenFits (sizes v) (length k) (length n) (length a) (length c) fits (tagAgrees (sizes v) k n a c)
     unfolding openRefusal
@@ -124,6 +147,7 @@ demand2 =
       sealed-length = length-of;
       opens = λ v k n s a m w. open-does v k n s a m w true refl;
       fits = λ v k n s a m out w r. fits-out v k n s a m w out r;
+      opens-in-c = λ v k n s a m out info w r t. open-in-c v k n s a m w out info r t;
       only = genuine;
       withholds = withheld;
     }

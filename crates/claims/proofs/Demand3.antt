@@ -3,6 +3,7 @@
 use Rattle.trace.proofs.Agreement.{agreement}
 use Rattle.claims.specs.Demand3.{Demand3}
 use Rattle.claims.proofs.Lists.{answered}
+use Rattle.claims.proofs.Closes.{always-closes}
 use Rattle.claims.proofs.Back.{gives-back, on-card, one-burst, withholds}
 use Rattle.claims.proofs.Accept.{accepts, reads}
 
@@ -10,6 +11,7 @@ pub demand3 : Demand3
 demand3 = record {
   agrees = agreement;
   answered = answered;
+  closes = always-closes;
   one-burst = one-burst;
   accepts = accepts;
   gives-back = gives-back;

@@ -1,11 +1,14 @@
 pub mod Marked
 pub mod Permutation
 pub mod PaperBits
+pub mod Orders
+pub mod Demand1
 pub mod Demand2
 pub mod StripLists
 pub mod StripCallLists
 pub mod Reading
 pub mod Lists
+pub mod Closes
 pub mod Back
 pub mod Accept
 pub mod Demand3

@@ -47,7 +47,7 @@ module _ (ed : Edition) where
     refused p c h = simp (ne-eqb (numberOf ed n p c) 0 h)
 
     -- what holds of a burst and of what an accepted call makes of it
-    taken-on : (p : Plain) (c : Call) (P : Plain → Type 0) → (numberOf ed n p c ≡ 0 → P (accepted ed n p c)) → P p → P (afterCall ed n p c)
+    pub taken-on : (p : Plain) (c : Call) (P : Plain → Type 0) → (numberOf ed n p c ≡ 0 → P (accepted ed n p c)) → P p → P (afterCall ed n p c)
     taken-on p c P f g =
         zero-or-not (numberOf ed n p c) _ (λ e. subst P (sym (done p c e)) (f e)) (λ e. subst P (sym (refused p c e)) g)
 
@@ -159,7 +159,7 @@ module _ (ed : Edition) where
     unfolding begun
     shut-begun h = simp (ne-eqb (beginRefusal ed l) 0 h)
 
-    reached-answered : Reached ed l → CloseAnswered (l .calls) (rest (plainAnswers ed l))
+    pub reached-answered : Reached ed l → CloseAnswered (l .calls) (rest (plainAnswers ed l))
     unfolding plainAnswers plainOf
     reached-answered r = closed-answered (l .bufferLength) (begun ed l) (l .calls) (open-begun (r .begun)) (r .closed)
 

@@ -1,6 +1,7 @@
 -- Demand 3, over whole lists of calls (01, "Recorder", "Reader"): a begin, then keep, drop (by value or in place) and close in any order, refused ones among them.
 --   agrees      numbers, shot numbers and totals equal those of the plain burst, and after an accepted close the front of the buffer is its file
 --   answered    an accepted close is one that was answered 0
+--   closes      a burst that was begun and is not closed can be closed next
 --   one-burst   no file belongs to two bursts under its key
 --   accepts     the reader accepts exactly the files of such lists
 --   gives-back  it then gives back burst number, site mark and the list of shots, with taken = kept + dropped
@@ -9,7 +10,7 @@
 --   withholds   otherwise it releases no picture byte
 -- A list is read as one of an edition, a row of `editions`; the row that the recorder makes of it is `editionFor`. The cipher is the one that `Parts` of the burst file chooses, ICEPOLE-128. Assumes nothing.
 use mathlib.Core.Bool.{true, _&&_}
-use mathlib.Core.List.{List, [], _∷_}
+use mathlib.Core.List.{List, [], _∷_, _++_}
 use mathlib.Core.Logic.{_↔_, _⊎_}
 use mathlib.Core.Option.{Option, some, none}
 use mathlib.Core.Path.{_≡_}
@@ -25,7 +26,7 @@ use Rattle.burst.specs.Parts.{Fits}
 use Rattle.burst.specs.Layout.{maxPicture, recordBytes}
 use Rattle.burst.specs.Numbers.{usedAfter}
 use Rattle.trace.specs.Plain.{Shot, kept, gap, pictures, gaps, Plain, fileOf, Call, keepShot, dropShot, closeBurst, CallList, Answer, plainOf, plainAnswers, totalOf}
-use Rattle.trace.specs.Trace.{runBuffer}
+use Rattle.trace.specs.Trace.{runAnswers, runBuffer}
 use Rattle.trace.specs.Agreement.{Reached, editionFor, Agreement}
 use Rattle.reader.specs.declared.Checked.{Checked}
 use Rattle.reader.specs.Front.{editionIn}
@@ -46,6 +47,20 @@ rest (a ∷ answers) = answers
 abbrev pub Answered : Type 0
 Answered = (e : Edition) (l : CallList) → Reached e l ↔ CloseAnswered (l .calls) (rest (plainAnswers e l))
 
+-- ---- a burst that was begun can always be closed
+-- the list with one more close at its end
+abbrev pub andClose : CallList → CallList
+andClose l = record { key = l .key; identity = l .identity; bufferLength = l .bufferLength; calls = l .calls ++ (closeBurst ∷ []) }
+
+abbrev pub firstNumber : List Answer → ℕ
+firstNumber [] = 0
+firstNumber (a ∷ answers) = a .number
+
+-- where begin was answered 0 and no close was, one more close is answered 0, with the total; the answers before it are those of the list without it
+abbrev pub AlwaysCloses : Type 0
+AlwaysCloses = (l : CallList) (b : Bytes) → length b ≡ l .bufferLength → firstNumber (runAnswers l b) ≡ 0 → (CloseAnswered (l .calls) (rest (runAnswers l b)) → ⊥)
+    → runAnswers (andClose l) b ≡ runAnswers l b ++ (record { number = 0; mark = 0; value = totalOf (editionFor l) (plainOf (editionFor l) l) } ∷ [])
+
 -- ---- no file belongs to two bursts under its key
 pub record SameBurst (p p′ : Plain) : Type 0 where
   pub name : p .identity .name ≡ p′ .identity .name
@@ -64,16 +79,21 @@ OneBurst = (e e′ : Edition) (l l′ : CallList) → Filed e l → Filed e′ l
     → (e ≡ e′) × SameBurst (plainOf e l) (plainOf e′ l′)
 
 -- ---- the reader accepts exactly the files of such lists
+-- a lent slice: bytes, and fewer than 2^63 of them
+pub record Slice (b : Bytes) : Type 0 where
+  pub bytes : AllBytes b
+  pub size : length b < 2 ^ 63
+
 -- what the types of the calls say of their arguments; of the name, `Filed` says it
 abbrev pub TypedCalls : List Call → Type 0
 TypedCalls [] = Unit {0}
-TypedCalls (keepShot s p ∷ cs) = (AllBytes s × AllBytes p) × TypedCalls cs
+TypedCalls (keepShot s p ∷ cs) = (Slice s × Slice p) × TypedCalls cs
 TypedCalls (dropShot way ∷ cs) = TypedCalls cs
 TypedCalls (closeBurst ∷ cs) = TypedCalls cs
 
 pub record Typed (l : CallList) : Type 0 where
-  pub key : AllBytes (l .key)
-  pub siteMark : AllBytes (l .identity .siteMark)
+  pub key : Slice (l .key)
+  pub siteMark : Slice (l .identity .siteMark)
   pub buffer : l .bufferLength < 2 ^ 63
   pub calls : TypedCalls (l .calls)
 
@@ -193,6 +213,7 @@ Withholds = (key f : Bytes) (place : ℕ) (out : Bytes) → Withheld key f place
 pub record Demand3 : Type 0 where
   pub agrees : Agreement
   pub answered : Answered
+  pub closes : AlwaysCloses
   pub one-burst : OneBurst
   pub accepts : Accepts
   pub gives-back : GivesBack

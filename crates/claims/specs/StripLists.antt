@@ -14,7 +14,7 @@
 use mathlib.Core.Bool.{Bool, true, false}
 use mathlib.Core.List.{List, [], _∷_, _++_, map}
 use mathlib.Core.Path.{_≡_}
-use Prim.Native.Nat.{ℕ, _+_, _≤_, _<_}
+use Prim.Native.Nat.{ℕ, _+_, _^_, _≤_, _<_}
 use lib.Dec.{eqb}
 use lib.ListN.{length, take, drop}
 use Rattle.bytes_le.specs.Bytes.{Bytes, putBytes}
@@ -238,7 +238,7 @@ module _ (l : StripList) (st : Bytes) where
 
 -- ---- the theorems of the C calls
 abbrev pub StatePasses : Type 0
-StatePasses = (b : Bytes) (s : StripState) → stripStateLength ≤ length b → length (s .bytes) ≡ 160 → s .count < 18446744073709551616
+StatePasses = (b : Bytes) (s : StripState) → stripStateLength ≤ length b → length (s .bytes) ≡ 160 → s .count < 2 ^ 64
     → stripStateIn (putBytes b 0 (stripStateBytes s)) ≡ s
 
 pub record StripCallLists : Type 0 where

@@ -1,0 +1,399 @@
+-- Demand 1: each order by its tests, and each refused call by its number.
+-- Assumes nothing.
+use mathlib.Core.Bool.{Bool, true, false, not, _||_, _&&_}
+use mathlib.Core.List.{List, [], _∷_}
+use mathlib.Core.Logic.{_⊎_, inl, inr, _≢_}
+use mathlib.Core.Path.{_≡_, refl, sym, ap, subst, _∙_}
+use Prim.Native.Nat.{ℕ, suc, _+_, _-_, _≤_, _<_}
+use native.Mathlib.Omega.{arith}
+use borrow.Author.Tests.{eq-eqb, ne-eqb, le-ltb, lt-ltb, lt-leb, leb-false, not-true, not-false}
+use lib.Dec.{eqb, leb, ltb}
+use lib.ListN.{length, drop}
+use Rattle.bytes_le.specs.Bytes.{Bytes, putBytes}
+use Rattle.icepole.specs.declared.Variant.{Variant}
+use Rattle.icepole.specs.declared.Variant.the-variants.{Icepole128}
+use Rattle.icepole.specs.Variants.{sizes}
+use Rattle.icepole.specs.Sealing.{pick}
+use Rattle.icepole.specs.Answers.{maxLength, tagAgrees, fitsOutput, sealNumber, openNumber, sealRefusal, sealAnswer, sealOutput, openRefusal, openAnswer, openOutput}
+use Rattle.strips.specs.declared.StripState.{StripState}
+use Rattle.strips.specs.Answers.{notStarted, startNumber, stripNumber, endNumber, startRefusal, startAnswer, startOutput, stripRefusal, stripAnswer, stripOutput, endRefusal, endAnswer, endOutput}
+use Rattle.icepole_c.specs.Calls.{fitsBoth, callRefusal, callOutput, callInfo}
+use Rattle.icepole_c.specs.Strips.{stripStateLength, stripStateBytes, stripStateIn, startCallNumber, startCallOutput, startCallState, stripCallNumber, stripCallOutput, stripCallState, endCallNumber, endCallOutput, endCallState}
+use Rattle.burst.specs.declared.Recorder.{Recorder}
+use Rattle.burst.specs.Editions.{written}
+use Rattle.burst.specs.Layout.{Identity, maxPicture}
+use Rattle.burst.proofs.Rules.{clash}
+use Rattle.burst.specs.Numbers.{usedAfter, totalFrom, beginNumber, keepNumber, dropNumber, closeNumber}
+use Rattle.burst.specs.Recorder.{editionOf, isSound, beginRefused, beginAnswer, beginBuffer, dropRefused, dropAnswer, keepRefused, keepAnswer, keepBuffer, closeRefused, closeAnswer, closeBuffer}
+use Rattle.trace.specs.Plain.{Call, keepShot, dropShot, closeBurst}
+use Rattle.trace.specs.Trace.{nextRecorder, nextBuffer, answerTo}
+use Rattle.reader.specs.Verdicts.{verdictNumber}
+use Rattle.reader.specs.Front.{keptIn, entryAt, positionOf, frontRules}
+use Rattle.reader.specs.Reader.{verdict, checkNumber, checkMark, checkAnswer, recordNumber, recordOffset, recordBytesIn, fetchNumber, fetchAnswer, fetchOutput}
+use Rattle.reader.proofs.Answers.{Found, found}
+use Rattle.reader.proofs.Marks.{SomeDiffers, seven, differing, agreeing, mark-closing, mark-record}
+use Rattle.listing.specs.Listing.{listing, listNumber, listAnswer, listOutput}
+use Rattle.listing.proofs.Lines.{listing-length}
+use Rattle.burst_c.specs.Calls.{checkInfoLength, fetchInfoLength, checkCallNumber, checkCallInfo, fetchCallNumber, fetchCallOutput, fetchCallInfo}
+use Rattle.claims.specs.Demand1.{Refusal, _on_, FirstOf, SealNumber, Seal, orderOfOpen, OpenNumber, NoRoomToOpen, Verify, Open, OpenCall, orderOfStart, StartNumber, Start, orderOfStrip, Strip, orderOfEnd, End, StartCall, StripCall, EndCall, Begin, Keep, Drop, Close, InList, orderOfCheck, Check, orderAtPlace, Record, NoRoomToFetch, Fetch, CheckCall, FetchCall, Print, Demand1}
+use Rattle.claims.proofs.Orders.{Tells, differs, less, at-most, fails, holds, either, first, row, by-tests, NoZero, behind, then-tests}
+use Rattle.claims.proofs.Lists.{zero-or-not}
+
+one-more : (n : ℕ) → suc n ≢ 0
+one-more n e = omega arith
+
+-- ---- sealing and opening
+seal-number : SealNumber
+unfolding sealNumber
+seal-number v k n s a m o =
+    by-tests
+    (row 1 (differs k (sizes v .key))
+    ∷ row 2 (differs n (sizes v .nonce))
+    ∷ row 3 (differs s (sizes v .secret))
+    ∷ row 4 (either (less maxLength a) (less maxLength m))
+    ∷ row 5 (less o (sizes v .secret + (m + 16)))
+    ∷ [])
+
+module _ (v : Variant) (key nonce secret ad m out : Bytes) where
+  seals : Seal v key nonce secret ad m out
+  unfolding sealAnswer sealOutput sealRefusal
+  seals = record {
+    order = seal-number v (length key) (length nonce) (length secret) (length ad) (length m) (length out);
+    refused = λ h. let z = ne-eqb _ 0 h in (simp z, simp z);
+    returned = refl;
+  }
+
+-- the message that a sealed message implies is too long
+implied : (c s : ℕ) → Tells (ltb maxLength (c - s)) (maxLength + s < c)
+implied c s = let t = less maxLength (c - s) in record { yes = λ h. let g = t .yes h in omega arith; no′ = λ h g. t .no′ h (omega arith) }
+
+-- opening, whatever says that there is no room, and that the tag differs
+opening : (v : Variant) (k n a c : ℕ) (fits agrees : Bool) (noRoom tagDiffers : Type 0) → Tells (not fits) noRoom → Tells (not agrees) tagDiffers
+    → FirstOf (openNumber (sizes v) k n a c fits agrees) (orderOfOpen v k n a c noRoom tagDiffers)
+unfolding openNumber
+opening v k n a c fits agrees noRoom tagDiffers r t =
+    by-tests
+    (row 1 (differs k (sizes v .key))
+    ∷ row 2 (differs n (sizes v .nonce))
+    ∷ row 4 (either (less maxLength a) (implied c (sizes v .secret + 16)))
+    ∷ row 6 (less c (sizes v .secret + 16))
+    ∷ row 5 r
+    ∷ row 7 t
+    ∷ [])
+
+never : Tells (not true) ⊥
+never = record { yes = λ h. clash true refl (sym h); no′ = λ _ x. x }
+
+-- an output without room
+narrow : (v : Variant) (c out : Bytes) → Tells (not (fitsOutput v c out)) (NoRoomToOpen v c out)
+narrow v c out =
+    let t = at-most (length c - (sizes v .secret + 16)) (length out) in
+    record {
+      yes = λ h. leb-false (length c - (sizes v .secret + 16)) (length out) (not-true _ h);
+      no′ = λ h g. let l = t .yes (not-false _ h) in omega arith;
+    }
+
+-- one of two tests fails
+one-fails : (a b : Bool) (c d : Type 0) → Tells (not a) c → Tells (not b) d → Tells (not (a && b)) (c ⊎ d)
+one-fails true b c d s t = record { yes = λ h. inr (t .yes h); no′ = λ h. elim [ inl x ↦ s .no′ refl x | inr y ↦ t .no′ h y ] }
+one-fails false b c d s t = record { yes = λ _. inl (s .yes refl); no′ = λ h _. clash true refl h }
+
+open-number : OpenNumber
+open-number v k n a c fits = opening v k n a c fits true (fits ≡ false) ⊥ (fails fits) never
+
+module _ (v : Variant) (key nonce ad c : Bytes) where
+  abbrev tag : Bool
+  tag = tagAgrees (sizes v) key nonce ad c
+
+  verifies : Verify v key nonce ad c
+  unfolding openAnswer openRefusal
+  verifies = record {
+    order = opening v (length key) (length nonce) (length ad) (length c) true tag ⊥ (tag ≡ false) never (fails tag);
+    refused = λ h. let z = ne-eqb _ 0 h in simp z;
+  }
+
+  module _ (out : Bytes) where
+    opens : Open v key nonce ad c out
+    unfolding openAnswer openOutput openRefusal
+    opens = record {
+      order = opening v (length key) (length nonce) (length ad) (length c) (fitsOutput v c out) tag (NoRoomToOpen v c out) (tag ≡ false) (narrow v c out) (fails tag);
+      refused = λ h. let z = ne-eqb _ 0 h in (simp z, simp z);
+    }
+
+    module _ (info : Bytes) where
+      short : Tells (not (leb (8 + sizes v .secret) (length info))) (length info < 8 + sizes v .secret)
+      short =
+          let t = at-most (8 + sizes v .secret) (length info) in
+          record { yes = λ h. leb-false _ _ (not-true _ h); no′ = λ h g. let l = t .yes (not-false _ h) in omega arith }
+
+      opens-in-c : OpenCall v key nonce ad c out info
+      unfolding openAnswer openOutput openRefusal callInfo
+      opens-in-c = record {
+        order =
+            opening v (length key) (length nonce) (length ad) (length c) (fitsBoth v key nonce ad c out info) tag _ (tag ≡ false)
+            (one-fails (leb (8 + sizes v .secret) (length info)) (fitsOutput v c out) (length info < 8 + sizes v .secret) (NoRoomToOpen v c out) short (narrow v c out)) (fails tag);
+        refused = λ h. let z = ne-eqb _ 0 h in (simp z, simp z);
+      }
+
+-- ---- strips
+start-number : StartNumber
+unfolding startNumber
+start-number k n s a o =
+    by-tests (row 1 (differs k 16) ∷ row 2 (differs n 16) ∷ row 3 (differs s 16) ∷ row 4 (less maxLength a) ∷ row 5 (less o 16) ∷ [])
+
+module _ (key nonce secret ad out : Bytes) where
+  start-order : FirstOf (startRefusal key nonce secret ad out) (orderOfStart (length key) (length nonce) (length secret) (length ad) (length out))
+  unfolding startRefusal
+  start-order = start-number (length key) (length nonce) (length secret) (length ad) (length out)
+
+  starts : Start key nonce secret ad out
+  unfolding startAnswer startOutput
+  starts = record { order = start-order; refused = λ h. let z = ne-eqb _ 0 h in (simp z, simp z) }
+
+module _ (s : StripState) (m out : Bytes) where
+  strip-order : FirstOf (stripRefusal s m out) (orderOfStrip s m out)
+  unfolding stripRefusal stripNumber
+  strip-order =
+      by-tests (row 14 (either (holds (s .finished)) (less maxLength (s .count))) ∷ row 4 (less maxLength (s .count + length m)) ∷ row 5 (less (length out) (length m)) ∷ [])
+
+  strips : Strip s m out
+  unfolding stripAnswer stripOutput
+  strips = record { order = strip-order; refused = λ h. let z = ne-eqb _ 0 h in (simp z, simp z) }
+
+module _ (s : StripState) (out : Bytes) where
+  end-order : FirstOf (endRefusal s out) (orderOfEnd s out)
+  unfolding endRefusal endNumber
+  end-order =
+      by-tests (row 14 (either (holds (s .finished)) (less maxLength (s .count))) ∷ row 5 (less (length out) 16) ∷ [])
+
+  ends : End s out
+  unfolding endAnswer endOutput
+  ends = record { order = end-order; refused = λ h. let z = ne-eqb _ 0 h in (simp z, simp z) }
+
+module _ (key nonce secret ad out state : Bytes) where
+  abbrev own : ℕ
+  own = startRefusal key nonce secret ad out
+
+  -- with room for the state the number is start's own
+  own-number : stripStateLength ≤ length state → own ≡ 0 → startCallNumber key nonce secret ad out state ≡ 0
+  unfolding startCallNumber
+  own-number h e = simp (e, le-ltb (length state) stripStateLength h)
+
+  starts-in-c : StartCall key nonce secret ad out state
+  unfolding startCallNumber startCallOutput startCallState startAnswer
+  starts-in-c = record {
+    order =
+        then-tests (orderOfStart (length key) (length nonce) (length secret) (length ad) (length out)) own (one-more 0, (one-more 1, (one-more 2, (one-more 3, (one-more 4, tt)))))
+        (start-order key nonce secret ad out) (row 5 (less (length state) stripStateLength) ∷ []);
+    refused = λ h. let z = ne-eqb _ 0 h in simp z;
+    finished = λ h g. simp (le-ltb (length state) stripStateLength g, ne-eqb own 0 (λ e. h (own-number g e)));
+    short = λ h. simp (lt-ltb (length state) stripStateLength h);
+  }
+
+module _ (state m out : Bytes) where
+  strips-in-c : StripCall state m out
+  unfolding stripCallNumber stripCallOutput stripCallState
+  strips-in-c = record {
+    order = first _ 5 _ _ (orderOfStrip (stripStateIn state) m out) (less (length state) stripStateLength) (strip-order (stripStateIn state) m out);
+    refused = λ h. let z = ne-eqb _ 0 h in (simp z, simp z);
+  }
+
+module _ (state out : Bytes) where
+  ends-in-c : EndCall state out
+  unfolding endCallNumber endCallOutput endCallState
+  ends-in-c = record {
+    order = first _ 5 _ _ (orderOfEnd (stripStateIn state) out) (less (length state) stripStateLength) (end-order (stripStateIn state) out);
+    refused = λ h. let z = ne-eqb _ 0 h in (simp z, simp z);
+  }
+
+-- ---- the recorder
+module _ (key : Bytes) (i : Identity) (buffer : Bytes) where
+  begins : Begin key i buffer
+  unfolding beginAnswer beginBuffer beginRefused beginNumber
+  begins = record {
+    order =
+        by-tests (row 1 (differs (length key) 16) ∷ row 3 (differs (length (i .siteMark)) 16) ∷ row 11 (less (length buffer) (totalFrom (written (length key) .header) 0)) ∷ []);
+    refused = λ h. let z = ne-eqb _ 0 h in (simp z, simp z);
+  }
+
+module _ (r : Recorder) (stamp picture buffer : Bytes) where
+  keeps : Keep r stamp picture buffer
+  unfolding keepAnswer keepBuffer keepRefused keepNumber
+  keeps = record {
+    order =
+        by-tests (row 8 (fails (isSound (editionOf r) r)) ∷ row 3 (differs (length stamp) 16) ∷ row 9 (at-most (editionOf r .shots) (r .taken .0)) ∷ row 10 (either (less (length picture) 1) (less maxPicture (length picture))) ∷ row 11 (less (length buffer) (totalFrom (usedAfter (r .used) (length picture)) (r .kept .0 + 1))) ∷ []);
+    refused = λ h. let z = ne-eqb _ 0 h in (simp z, simp z);
+  }
+
+module _ (r : Recorder) where
+  drops : Drop r
+  unfolding dropAnswer dropRefused dropNumber
+  drops = record {
+    order = by-tests (row 8 (fails (isSound (editionOf r) r)) ∷ row 9 (at-most (editionOf r .shots) (r .taken .0)) ∷ []);
+    refused = λ h. let z = ne-eqb _ 0 h in simp z;
+  }
+
+module _ (r : Recorder) (buffer : Bytes) where
+  closes : Close r buffer
+  unfolding closeAnswer closeBuffer closeRefused closeNumber
+  closes = record {
+    order = by-tests (row 8 (fails (isSound (editionOf r) r)) ∷ row 11 (less (length buffer) (totalFrom (r .used) (r .kept .0))) ∷ []);
+    refused = λ h. let z = ne-eqb _ 0 h in (simp z, simp z);
+  }
+
+in-lists : (r : Recorder) (buffer : Bytes) (c : Call) → InList r buffer c
+unfolding answerTo nextRecorder nextBuffer keepAnswer keepBuffer dropAnswer closeAnswer closeBuffer
+in-lists r buffer (keepShot s p) = record { refused = λ h. let z = ne-eqb _ 0 h in (simp z, simp z, simp z) }
+in-lists r buffer (dropShot way) = record { refused = λ h. let z = ne-eqb _ 0 h in (simp z, simp z, refl) }
+in-lists r buffer closeBurst = record { refused = λ h. let z = ne-eqb _ 0 h in (simp z, simp z, simp z) }
+
+-- ---- the reader
+-- a number that is 0, or else k where the condition holds
+by-number : (n k : ℕ) (c : Type 0) → (n ≢ 0 → c × (n ≡ k)) → (n ≡ 0 → c → ⊥) → FirstOf (pick (not (eqb n 0)) n 0) ((k on c) ∷ [])
+by-number n k c f g =
+    zero-or-not n _
+    (λ e. inr (g e, ap (λ (b : Bool). pick (not b) n 0) (eq-eqb n 0 e)))
+    (λ e. inl (f e .0, ap (λ (b : Bool). pick (not b) n 0) (ne-eqb n 0 e) ∙ f e .1))
+
+module _ (key f : Bytes) where
+  abbrev told : ℕ
+  told = verdictNumber (verdict key f)
+
+  check-order : FirstOf (checkNumber key f) (orderOfCheck key f)
+  unfolding checkNumber
+  check-order =
+      first _ 1 _ _ (drop 1 (orderOfCheck key f)) (differs (length key) 16)
+      (first _ 12 _ _ (drop 2 (orderOfCheck key f)) (fails (frontRules f))
+      (by-number told 7 (SomeDiffers key f) (λ h. (differing key f h, seven (verdict key f) h)) (agreeing key f)))
+
+  check-some : NoZero (orderOfCheck key f)
+  check-some = (one-more 0, (one-more 11, (one-more 6, tt)))
+
+  mark-0 : checkNumber key f ≢ 7 → checkMark key f ≡ 0
+  unfolding checkMark
+  mark-0 h = simp (ne-eqb (checkNumber key f) 7 h)
+
+  checks : Check key f
+  unfolding checkAnswer checkMark
+  checks = record {
+    order = check-order;
+    refused = λ h. let z = ne-eqb _ 0 h in simp z;
+    mark-closing = λ h d. simp h (mark-closing key f d);
+    mark-record = λ h a place l d g. simp h (mark-record key f a place l d g);
+    unmarked = λ h. simp (ne-eqb (checkNumber key f) 7 h);
+    mark-left = refl;
+  }
+
+  -- a number behind check's: where it is not 7, neither is check's
+  behind-check : (n : ℕ) → pick (not (eqb (checkNumber key f) 0)) (checkNumber key f) n ≢ 7 → checkMark key f ≡ 0
+  behind-check n h = mark-0 (λ e. h (ap (λ (m : ℕ). pick (not (eqb m 0)) m n) e))
+
+module _ (key f : Bytes) (place : ℕ) where
+  place-order : FirstOf (recordNumber key f place) (orderAtPlace key f place)
+  unfolding recordNumber
+  place-order =
+      then-tests (orderOfCheck key f) (checkNumber key f) (check-some key f) (check-order key f) (row 13 (at-most (keptIn f) place) ∷ [])
+
+  place-mark : recordNumber key f place ≢ 7 → checkMark key f ≡ 0
+  unfolding recordNumber
+  place-mark h = behind-check key f _ h
+
+  records : Record key f place
+  unfolding recordBytesIn recordOffset
+  records = record { order = place-order; refused = λ h. let z = ne-eqb _ 0 h in (simp z, simp z); unmarked = place-mark }
+
+module _ (key f : Bytes) (place : ℕ) (out : Bytes) where
+  fetches : Fetch key f place out
+  unfolding fetchAnswer fetchOutput fetchNumber checkAnswer
+  fetches = record {
+    order =
+        then-tests (orderOfCheck key f) (checkNumber key f) (check-some key f) (check-order key f)
+        (row 13 (at-most (keptIn f) place) ∷ row 5 (less (length out) (entryAt f (positionOf f place) .length)) ∷ []);
+    refused = λ h. let z = ne-eqb _ 0 h in (simp z, simp z);
+    unmarked = behind-check key f _;
+  }
+
+  -- at a place that there is, the output alone decides
+  output-decides : recordNumber key f place ≡ 0 → fetchAnswer key f place out .refusal ≡ pick (ltb (length out) (entryAt f (positionOf f place) .length)) 5 0
+  unfolding fetchAnswer fetchNumber
+  output-decides h = let w = found key f place h in simp (w .zero, lt-leb (keptIn f) place (w .below))
+
+module _ (key f info : Bytes) where
+  checks-in-c : CheckCall key f info
+  unfolding checkCallNumber checkCallInfo checkAnswer
+  checks-in-c = record {
+    order =
+        then-tests (orderOfCheck key f) (checkNumber key f) (check-some key f) (check-order key f)
+        (row 5 (less (length info) checkInfoLength) ∷ []);
+    refused = λ h. let z = ne-eqb _ 0 h in simp z;
+    unmarked = behind-check key f _;
+  }
+
+-- 5 for the info and 5 for the output are one
+one-five : (a b : Bool) → _≡_ {A = ℕ} (pick a 5 (pick (not (eqb (pick b 5 0) 0)) (pick b 5 0) 0)) (pick (a || b) 5 0)
+one-five true b = refl
+one-five false true = refl
+one-five false false = refl
+
+module _ (key f : Bytes) (place : ℕ) (out info : Bytes) where
+  abbrev infoShort : Bool
+  infoShort = ltb (length info) fetchInfoLength
+
+  abbrev outShort : Bool
+  outShort = ltb (length out) (entryAt f (positionOf f place) .length)
+
+  fives : recordNumber key f place ≡ 0
+      → pick infoShort 5 (pick (not (eqb (fetchAnswer key f place out .refusal) 0)) (fetchAnswer key f place out .refusal) 0) ≡ pick (infoShort || outShort) 5 0
+  fives h = ap (λ (n : ℕ). pick infoShort 5 (pick (not (eqb n 0)) n 0)) (output-decides key f place out h) ∙ one-five infoShort outShort
+
+  abbrev fiveOrder : List Refusal
+  fiveOrder = (5 on ((length info < fetchInfoLength) ⊎ NoRoomToFetch key f place out)) ∷ []
+
+  fetches-in-c : FetchCall key f place out info
+  unfolding fetchCallNumber fetchCallOutput fetchCallInfo
+  fetches-in-c = record {
+    order =
+        behind (orderAtPlace key f place) fiveOrder (recordNumber key f place) _ (one-more 0, (one-more 11, (one-more 6, (one-more 12, tt)))) (place-order key f place)
+        (λ h. subst (λ (n : ℕ). FirstOf n fiveOrder) (sym (fives h))
+        (by-tests (row 5 (either (less (length info) fetchInfoLength) (less (length out) (entryAt f (positionOf f place) .length))) ∷ [])));
+    refused = λ h. let z = ne-eqb _ 0 h in (simp z, simp z);
+    unmarked = λ h. place-mark key f place (λ e. h (ap (λ (m : ℕ). pick (not (eqb m 0)) m (pick infoShort 5 (pick (not (eqb (fetchAnswer key f place out .refusal) 0)) (fetchAnswer key f place out .refusal) 0))) e));
+  }
+
+-- ---- the lister
+prints : (f out : Bytes) → Print f out
+unfolding listAnswer listOutput listNumber
+prints f out = record {
+  order = by-tests (row 5 (less (length out) (length (listing f))) ∷ []);
+  refused = λ h. let z = ne-eqb _ 0 h in (simp z, simp z);
+  room = λ h. simp (le-ltb (length out) (length (listing f)) (let g = listing-length f in omega arith));
+  returned = refl;
+}
+
+pub demand1 : Demand1
+demand1 = record {
+  seal-number = seal-number;
+  seals = seals;
+  open-number = open-number;
+  verifies = verifies;
+  opens = opens;
+  opens-in-c = opens-in-c;
+  start-number = start-number;
+  starts = starts;
+  strips = strips;
+  ends = ends;
+  starts-in-c = starts-in-c;
+  strips-in-c = strips-in-c;
+  ends-in-c = ends-in-c;
+  begins = begins;
+  keeps = keeps;
+  drops = drops;
+  closes = closes;
+  in-lists = in-lists;
+  checks = checks;
+  records = records;
+  fetches = fetches;
+  checks-in-c = checks-in-c;
+  fetches-in-c = fetches-in-c;
+  prints = prints;
+}
