@@ -6,15 +6,12 @@ use mathlib.Core.Path.{_≡_, refl, sym, ap, subst, _∙_}
 use Prim.Native.Nat.{ℕ, _+_, _*_, _≤_}
 use native.Mathlib.Omega.{arith}
 use lib.Dec.{eqb}
-use lib.ListN.{length}
-use Rattle.bytes_le.specs.Bytes.{Bytes}
 use Rattle.icepole.specs.Sealing.{pick}
 use Rattle.burst.specs.declared.Edition.{Edition}
 use Rattle.burst.proofs.Rules.{clash}
 use Rattle.burst.proofs.Numbers.{keeps, begins, close-0}
 use Rattle.trace.specs.Plain.{kept, gap, pictures, usedBy, Plain, noBurst, Call, keepShot, dropShot, closeBurst, CallList, Answer, totalOf, numberOf, accepted, valueOf, afterCall, answerOf, afterCalls, answersOf, begun, plainOf, plainAnswers, beginRefusal}
-use Rattle.trace.specs.Trace.{runAnswers}
-use Rattle.trace.specs.Agreement.{Reached, editionFor}
+use Rattle.trace.specs.Agreement.{editionFor}
 use Rattle.trace.proofs.Shots.{pictures-append, used-append}
 use Rattle.trace.proofs.Agreement.{agreement}
 use Rattle.claims.specs.Demand3.{CloseAnswered, rest, andClose, firstNumber, AlwaysCloses}

@@ -9,16 +9,15 @@ use native.Mathlib.Omega.{arith}
 use borrow.Author.Tests.{eq-eqb, ne-eqb, le-ltb, lt-ltb, lt-leb, leb-false, not-true, not-false}
 use lib.Dec.{eqb, leb, ltb}
 use lib.ListN.{length, drop}
-use Rattle.bytes_le.specs.Bytes.{Bytes, putBytes}
+use Rattle.bytes_le.specs.Bytes.{Bytes}
 use Rattle.icepole.specs.declared.Variant.{Variant}
-use Rattle.icepole.specs.declared.Variant.the-variants.{Icepole128}
 use Rattle.icepole.specs.Variants.{sizes}
 use Rattle.icepole.specs.Sealing.{pick}
 use Rattle.icepole.specs.Answers.{maxLength, tagAgrees, fitsOutput, sealNumber, openNumber, sealRefusal, sealAnswer, sealOutput, openRefusal, openAnswer, openOutput}
 use Rattle.strips.specs.declared.StripState.{StripState}
-use Rattle.strips.specs.Answers.{notStarted, startNumber, stripNumber, endNumber, startRefusal, startAnswer, startOutput, stripRefusal, stripAnswer, stripOutput, endRefusal, endAnswer, endOutput}
-use Rattle.icepole_c.specs.Calls.{fitsBoth, callRefusal, callOutput, callInfo}
-use Rattle.icepole_c.specs.Strips.{stripStateLength, stripStateBytes, stripStateIn, startCallNumber, startCallOutput, startCallState, stripCallNumber, stripCallOutput, stripCallState, endCallNumber, endCallOutput, endCallState}
+use Rattle.strips.specs.Answers.{startNumber, stripNumber, endNumber, startRefusal, startAnswer, startOutput, stripRefusal, stripAnswer, stripOutput, endRefusal, endAnswer, endOutput}
+use Rattle.icepole_c.specs.Calls.{fitsBoth, callInfo}
+use Rattle.icepole_c.specs.Strips.{stripStateLength, stripStateIn, startCallNumber, startCallOutput, startCallState, stripCallNumber, stripCallOutput, stripCallState, endCallNumber, endCallOutput, endCallState}
 use Rattle.burst.specs.declared.Recorder.{Recorder}
 use Rattle.burst.specs.Editions.{written}
 use Rattle.burst.specs.Layout.{Identity, maxPicture}
@@ -30,7 +29,7 @@ use Rattle.trace.specs.Trace.{nextRecorder, nextBuffer, answerTo}
 use Rattle.reader.specs.Verdicts.{verdictNumber}
 use Rattle.reader.specs.Front.{keptIn, entryAt, positionOf, frontRules}
 use Rattle.reader.specs.Reader.{verdict, checkNumber, checkMark, checkAnswer, recordNumber, recordOffset, recordBytesIn, fetchNumber, fetchAnswer, fetchOutput}
-use Rattle.reader.proofs.Answers.{Found, found}
+use Rattle.reader.proofs.Answers.{found}
 use Rattle.reader.proofs.Marks.{SomeDiffers, seven, differing, agreeing, mark-closing, mark-record}
 use Rattle.listing.specs.Listing.{listing, listNumber, listAnswer, listOutput}
 use Rattle.listing.proofs.Lines.{listing-length}
