@@ -17,7 +17,7 @@ use Rattle.burst.specs.Editions.{written}
 use Rattle.burst.specs.Layout.{Identity, headerBytes, recordBytes, closingSeal}
 use Rattle.burst.specs.Numbers.{usedAfter, totalFrom, beginNumber, keepNumber, dropNumber, closeNumber}
 use Rattle.burst.specs.Index.{entryOf}
-use Rattle.burst.specs.Recorder.{editionOf, nameOf, identityOf, isSound, newRecorder, noRecorder, beginRefused, beginAnswer, beginBuffer, dropRefused, afterDrop, dropAnswer, keepRefused, afterKeep, keepAnswer, keepBuffer, closeRefused, afterClose, closeAnswer, closeBuffer, recorderHeader, recorderIndex, recorderSeal}
+use Rattle.burst.specs.Recorder.{editionOf, nameOf, identityOf, isSound, newRecorder, noRecorder, beginRefusal, beginAnswer, beginBuffer, dropRefusal, afterDrop, dropAnswer, keepRefusal, afterKeep, keepAnswer, keepBuffer, closeRefusal, afterClose, closeAnswer, closeBuffer, recorderHeader, recorderIndex, recorderSeal}
 
 abbrev begunWith : ℕ → Recorder → Begun
 begunWith num r = record { refusal = num; mark = 0; recorder = r }
@@ -34,8 +34,8 @@ module _ (key : Bytes) (i : Identity) (b : Bytes) (e : Edition) (own : e ≡ wri
   abbrev Begins : ℕ
   Begins = beginNumber e (length key) (length (i .siteMark)) (length b)
 
-  begins-own : Begins ≡ beginRefused key i b
-  unfolding beginRefused
+  begins-own : Begins ≡ beginRefusal key i b
+  unfolding beginRefusal
   begins-own = ap (λ (x : Edition). beginNumber x (length key) (length (i .siteMark)) (length b)) own
 
   pub begin-refused : (num : ℕ) → num ≡ Begins → (num ≡ 0 → ⊥) → (r : Recorder) → r ≡ newRecorder (replicate 16 0) (record { name = record { «burst_number» = 0 }; siteMark = replicate 16 0 }) 0 true
@@ -59,8 +59,8 @@ module _ (r : Recorder) (e : Edition) (own : e ≡ editionOf r) where
   abbrev Drops : ℕ
   Drops = dropNumber e (isSound e r) (r .taken .0)
 
-  drops-own : Drops ≡ dropRefused r
-  unfolding dropRefused
+  drops-own : Drops ≡ dropRefusal r
+  unfolding dropRefusal
   drops-own = ap (λ (x : Edition). dropNumber x (isSound x r) (r .taken .0)) own
 
   pub drop-refused : (num : ℕ) → num ≡ Drops → (num ≡ 0 → ⊥) → shotWith num 0 r ≡ dropAnswer r
@@ -76,8 +76,8 @@ module _ (r : Recorder) (e : Edition) (own : e ≡ editionOf r) where
     abbrev Keeps : ℕ
     Keeps = keepNumber e (isSound e r) (r .taken .0) (r .kept .0) (r .used) (length s) (length p) (length b)
 
-    keeps-own : Keeps ≡ keepRefused r s p b
-    unfolding keepRefused
+    keeps-own : Keeps ≡ keepRefusal r s p b
+    unfolding keepRefusal
     keeps-own = ap (λ (x : Edition). keepNumber x (isSound x r) (r .taken .0) (r .kept .0) (r .used) (length s) (length p) (length b)) own
 
     pub keep-refused : (num : ℕ) → num ≡ Keeps → (num ≡ 0 → ⊥) → (shotWith num 0 r ≡ keepAnswer r s p b) × (b ≡ keepBuffer r s p b)
@@ -102,8 +102,8 @@ module _ (r : Recorder) (e : Edition) (own : e ≡ editionOf r) where
     abbrev Closes : ℕ
     Closes = closeNumber (isSound e r) (r .kept .0) (r .used) (length b)
 
-    closes-own : Closes ≡ closeRefused r b
-    unfolding closeRefused
+    closes-own : Closes ≡ closeRefusal r b
+    unfolding closeRefusal
     closes-own = ap (λ (x : Edition). closeNumber (isSound x r) (r .kept .0) (r .used) (length b)) own
 
     pub close-refused : (num : ℕ) → num ≡ Closes → (num ≡ 0 → ⊥) → (closedWith num 0 r ≡ closeAnswer r b) × (b ≡ closeBuffer r b)

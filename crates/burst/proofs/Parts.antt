@@ -1,6 +1,6 @@
 -- The laws of a sealed part: its length, opening after sealing, sealing after opening (so that only what was sealed opens), and bytes stay bytes. Then what the calls of `icepole` answer of it. The laws of ICEPOLE-128 are used here and nowhere above.
 -- Assumes nothing.
-use mathlib.Core.Bool.{Bool, true, false, not}
+use mathlib.Core.Bool.{Bool, true, false, cond, not}
 use mathlib.Core.List.{[], _++_, append-nil}
 use mathlib.Core.Path.{_≡_, refl, sym, ap, ap₂, _∙_}
 use Prim.Native.Nat.{ℕ, _+_, _-_, _≤_}
@@ -13,7 +13,7 @@ use Rattle.bytes_le.proofs.Laws.{put-part, put-put, put-whole, length-put}
 use Rattle.icepole.specs.declared.Opened.{Opened}
 use Rattle.icepole.specs.declared.Variant.the-variants.{Icepole128}
 use Rattle.icepole.specs.Variants.{sizes}
-use Rattle.icepole.specs.Sealing.{pick, sealed, secretOf, messageOf}
+use Rattle.icepole.specs.Sealing.{sealed, secretOf, messageOf}
 use Rattle.icepole.specs.Answers.{tagAgrees, openedAnswer, sealRefusal, sealOutput, openRefusal, openAnswer, openOutput, fitsOutput}
 use Rattle.icepole.proofs.Numbers.{seal-0, open-0, open-decides}
 use Rattle.icepole.proofs.Opening.{opened, length-sealed, secret-of-sealed, message-of-sealed, tag-of-sealed, length-secret-of, length-message-of, seal-open}
@@ -88,7 +88,7 @@ module _ (e : Edition) (key : Bytes) (name : Name) (shot : ℕ) where
         (simp (sym z)) ∙ ap (λ (n : Bytes). putBytes out 0 (sealed (sizes Icepole128) key n mark ad body)) is
 
     module _ (c : Bytes) (least : sealLength ≤ length c) (most : length c ≤ maxPicture + sealLength) where
-      swap : (b : Bool) → _≡_ {A = ℕ} (pick (not b) 7 0) (pick b 0 7)
+      swap : (b : Bool) → _≡_ {A = ℕ} (cond (not b) 7 0) (cond b 0 7)
       swap true = refl
       swap false = refl
 
@@ -98,7 +98,7 @@ module _ (e : Edition) (key : Bytes) (name : Name) (shot : ℕ) where
           open-decides (sizes Icepole128) (length key) (length nonce) (length ad) (length c) holds (tagAgrees (sizes Icepole128) key nonce ad c)
           (sym (open-0 (sizes Icepole128) (length key) (length nonce) (length ad) (length c) holds key16 nonce16 (omega arith) (omega arith) (omega arith) h))
           ∙ swap (tagAgrees (sizes Icepole128) key nonce ad c)
-          ∙ ap (λ (n : Bytes). pick (tagAgrees (sizes Icepole128) key n ad c) 0 7) is
+          ∙ ap (λ (n : Bytes). cond (tagAgrees (sizes Icepole128) key n ad c) 0 7) is
 
       answered : (holds : Bool) → holds ≡ true → openAnswer Icepole128 key nonce ad c holds ≡ partAnswer e key name shot ad c
       unfolding openAnswer partAnswer partMark
@@ -118,18 +118,18 @@ module _ (e : Edition) (key : Bytes) (name : Name) (shot : ℕ) where
         pub part-written : openOutput Icepole128 key nonce ad c (fitsOutput Icepole128 c out) out ≡ partOutput e key name shot ad c out
         unfolding openOutput partOutput partBody
         part-written =
-            ap₂ (λ (num : ℕ) (n : Bytes). pick (eqb num 0) (putBytes out 0 (messageOf (sizes Icepole128) key n ad c)) out) (decided _ holds-out) is
+            ap₂ (λ (num : ℕ) (n : Bytes). cond (eqb num 0) (putBytes out 0 (messageOf (sizes Icepole128) key n ad c)) out) (decided _ holds-out) is
 
   -- ---- what the answer tells of the tag
   module _ (ad c : Bytes) (r : Opened) (is : r ≡ partAnswer e key name shot ad c) where
-    number-is : r .refusal ≡ pick (partAgrees e key name shot ad c) 0 7
+    number-is : r .refusal ≡ cond (partAgrees e key name shot ad c) 0 7
     unfolding partAnswer partNumber
     number-is = ap (λ (x : Opened). x .refusal) is
 
     pub answer-agrees : eqb (r .refusal) 0 ≡ partAgrees e key name shot ad c
     answer-agrees = ap (λ (n : ℕ). eqb n 0) number-is ∙ by (partAgrees e key name shot ad c)
       where
-        by : (b : Bool) → eqb (pick b 0 7) 0 ≡ b
+        by : (b : Bool) → eqb (cond b 0 7) 0 ≡ b
         by true = refl
         by false = refl
 
@@ -140,7 +140,7 @@ module _ (e : Edition) (key : Bytes) (name : Name) (shot : ℕ) where
     answer-differs h = by (partAgrees e key name shot ad c) refl
       where
         by : (b : Bool) → partAgrees e key name shot ad c ≡ b → partAgrees e key name shot ad c ≡ false
-        by true g = absurd (h (number-is ∙ ap (λ (x : Bool). pick x 0 7) g))
+        by true g = absurd (h (number-is ∙ ap (λ (x : Bool). cond x 0 7) g))
         by false g = g
 
     pub answer-mark : partAgrees e key name shot ad c ≡ true → sealLength ≤ length c → r .secret ≡ partMark e key name shot ad c

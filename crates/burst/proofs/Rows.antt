@@ -1,6 +1,6 @@
 -- What is known of every row of the table, and the search for a row by its number, over the list of rows.
 -- Assumes nothing.
-use mathlib.Core.Bool.{Bool, true, false}
+use mathlib.Core.Bool.{Bool, true, false, cond}
 use mathlib.Core.List.{List, [], _∷_}
 use mathlib.Core.Logic.{inl, inr}
 use mathlib.Core.Path.{_≡_, refl, sym, ap, subst, _∙_}
@@ -11,7 +11,6 @@ use borrow.Author.Tests.{eq-eqb, ne-eqb}
 use lib.Dec.{eqb}
 use lib.ListN.{length, drop, getD, drop-of-length-le}
 use lib.Seq.{drop-cons}
-use Rattle.icepole.specs.Sealing.{pick}
 use Rattle.burst.specs.declared.Edition.{Edition}
 use Rattle.burst.specs.Editions.{edition1, editions, _among_, rowIn, numbered, written, Known}
 
@@ -41,7 +40,7 @@ found-in : (n : ℕ) (es : List Edition) → ((e : Edition) → e among es → e
 found-in n [] h = first-among
 found-in n (x ∷ es) h = either (eqb n (x .number)) x (rowIn n es) (h x (inl refl)) (found-in n es (λ e m. h e (inr m)))
   where
-    either : (b : Bool) (x y : Edition) → x among editions → y among editions → pick b x y among editions
+    either : (b : Bool) (x y : Edition) → x among editions → y among editions → cond b x y among editions
     either true x y hx hy = hx
     either false x y hx hy = hy
 

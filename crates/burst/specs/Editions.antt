@@ -1,11 +1,11 @@
 -- The editions of the burst file as rows of one table (01, "The burst file"): every number that an edition sets stands in its row and nowhere else. File, plain burst and front rules are said of any row; the recorder's calls are at the row that is written.
 -- Assumes nothing.
+use mathlib.Core.Bool.{cond}
 use mathlib.Core.List.{List, [], _∷_, map}
 use mathlib.Core.Logic.{_⊎_}
 use mathlib.Core.Path.{_≡_}
 use Prim.Native.Nat.{ℕ, _≤_, _<_, _^_}
 use lib.Dec.{eqb, leb}
-use Rattle.icepole.specs.Sealing.{pick}
 use Rattle.burst.specs.declared.Edition.{Edition}
 
 -- a row: the number in the header, the bytes of the header, the most shots
@@ -27,7 +27,7 @@ e among (x ∷ xs) = (e ≡ x) ⊎ (e among xs)
 -- ---- which row
 abbrev pub rowIn : ℕ → List Edition → Edition
 rowIn number [] = edition1
-rowIn number (x ∷ xs) = pick (eqb number (x .number)) x (rowIn number xs)
+rowIn number (x ∷ xs) = cond (eqb number (x .number)) x (rowIn number xs)
 
 -- the row of an edition number. A number that no row has gives edition 1, which the front rule "the number is the row's" then refuses
 unfoldable pub numbered : ℕ → Edition
@@ -40,7 +40,7 @@ written key = edition1
 -- ---- the largest of the rows
 abbrev largest : List ℕ → ℕ
 largest [] = 0
-largest (n ∷ ns) = pick (leb n (largest ns)) (largest ns) n
+largest (n ∷ ns) = cond (leb n (largest ns)) (largest ns) n
 
 -- the most shots of any row: the recorder has room for so many entries
 abbrev pub maxEntries : ℕ

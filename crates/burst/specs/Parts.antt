@@ -1,6 +1,6 @@
 -- A sealed part of the burst file: a record, or the closing seal, which has shot number 0 (01, "The burst file"). It holds a mark of 16 bytes, which is the stamp or the site mark, and a body. (The mark that goes with a refusal number is another.) Here the cipher is chosen; recorder, reader and demand 3 name no variant.
 -- Assumes nothing.
-use mathlib.Core.Bool.{Bool}
+use mathlib.Core.Bool.{Bool, cond}
 use mathlib.Core.List.{_++_}
 use Prim.Native.Nat.{ℕ, _-_, _<_, _^_}
 use lib.ListN.{length, replicate}
@@ -8,7 +8,7 @@ use Rattle.bytes_le.specs.Bytes.{Bytes, le, putBytes}
 use Rattle.icepole.specs.declared.Opened.{Opened}
 use Rattle.icepole.specs.declared.Variant.the-variants.{Icepole128}
 use Rattle.icepole.specs.Variants.{sizes}
-use Rattle.icepole.specs.Sealing.{pick, sealed, secretOf, messageOf}
+use Rattle.icepole.specs.Sealing.{sealed, secretOf, messageOf}
 use Rattle.icepole.specs.Answers.{tagAgrees, openedAnswer, unless}
 use Rattle.burst.specs.declared.Edition.{Edition}
 use Rattle.burst.specs.declared.Name.{Name}
@@ -43,7 +43,7 @@ module _ (e : Edition) (key : Bytes) (name : Name) (shot : ℕ) where
 
     -- ---- what verifying and opening answer where every length is right: the tag alone decides
     unfoldable pub partNumber : ℕ
-    partNumber = pick partAgrees 0 7
+    partNumber = cond partAgrees 0 7
 
     -- the body's length, and the mark in the field of the secret number
     unfoldable pub partAnswer : Opened

@@ -1,12 +1,11 @@
 -- The recorder's calls (01, "Recorder"): what each answers and leaves in the buffer, for good and bad calls.
 -- Assumes nothing.
-use mathlib.Core.Bool.{Bool, true, false, not, _&&_}
+use mathlib.Core.Bool.{Bool, true, false, cond, not, _&&_}
 use mathlib.Core.List.{_++_}
 use Prim.Native.Nat.{ℕ, _+_, _-_}
 use lib.Dec.{eqb, leb}
 use lib.ListN.{length, take, set, replicate}
 use Rattle.bytes_le.specs.Bytes.{Bytes, putBytes}
-use Rattle.icepole.specs.Sealing.{pick}
 use Rattle.icepole.specs.Answers.{unless}
 use Rattle.burst.specs.declared.Recorder.{Recorder}
 use Rattle.burst.specs.declared.Begun.{Begun}
@@ -56,19 +55,19 @@ unfoldable pub noRecorder : Recorder
 noRecorder = newRecorder (replicate 16 0) (record { name = record { «burst_number» = 0 }; siteMark = replicate 16 0 }) 0 true
 
 module _ (key : Bytes) (i : Identity) (buffer : Bytes) where
-  unfoldable pub beginRefused : ℕ
-  beginRefused = beginNumber (written (length key)) (length key) (length (i .siteMark)) (length buffer)
+  unfoldable pub beginRefusal : ℕ
+  beginRefusal = beginNumber (written (length key)) (length key) (length (i .siteMark)) (length buffer)
 
   unfoldable pub beginAnswer : Begun
   beginAnswer = record {
-    refusal = beginRefused;
+    refusal = beginRefusal;
     mark = 0;
-    recorder = pick (eqb beginRefused 0) (newRecorder key i (written (length key) .header) false) noRecorder;
+    recorder = cond (eqb beginRefusal 0) (newRecorder key i (written (length key) .header) false) noRecorder;
   }
 
   -- the header's bytes are zero until close writes it
   unfoldable pub beginBuffer : Bytes
-  beginBuffer = unless beginRefused buffer (putBytes buffer 0 (replicate (written (length key) .header) 0))
+  beginBuffer = unless beginRefusal buffer (putBytes buffer 0 (replicate (written (length key) .header) 0))
 
 -- ---- keep and drop
 -- the shot number with the recorder; a refused call returns the recorder it was given
@@ -76,8 +75,8 @@ abbrev pub shotAnswer : ℕ → Recorder → Recorder → ShotAnswer
 shotAnswer num was is = record {
   refusal = num;
   mark = 0;
-  shot = record { 0 = pick (eqb num 0) (was .taken .0 + 1) 0 };
-  recorder = pick (eqb num 0) is was;
+  shot = record { 0 = cond (eqb num 0) (was .taken .0 + 1) 0 };
+  recorder = cond (eqb num 0) is was;
 }
 
 unfoldable pub afterDrop : Recorder → Recorder
@@ -92,11 +91,11 @@ afterDrop r = record {
   closed = r .closed;
 }
 
-unfoldable pub dropRefused : Recorder → ℕ
-dropRefused r = dropNumber (editionOf r) (isSound (editionOf r) r) (r .taken .0)
+unfoldable pub dropRefusal : Recorder → ℕ
+dropRefusal r = dropNumber (editionOf r) (isSound (editionOf r) r) (r .taken .0)
 
 unfoldable pub dropAnswer : Recorder → ShotAnswer
-dropAnswer r = shotAnswer (dropRefused r) r (afterDrop r)
+dropAnswer r = shotAnswer (dropRefusal r) r (afterDrop r)
 
 -- one entry at place kept, for a picture of so many bytes
 unfoldable pub afterKeep : Recorder → ℕ → Recorder
@@ -112,16 +111,16 @@ afterKeep r count = record {
 }
 
 module _ (r : Recorder) (stamp picture buffer : Bytes) where
-  unfoldable pub keepRefused : ℕ
-  keepRefused = keepNumber (editionOf r) (isSound (editionOf r) r) (r .taken .0) (r .kept .0) (r .used) (length stamp) (length picture) (length buffer)
+  unfoldable pub keepRefusal : ℕ
+  keepRefusal = keepNumber (editionOf r) (isSound (editionOf r) r) (r .taken .0) (r .kept .0) (r .used) (length stamp) (length picture) (length buffer)
 
   unfoldable pub keepAnswer : ShotAnswer
-  keepAnswer = shotAnswer keepRefused r (afterKeep r (length picture))
+  keepAnswer = shotAnswer keepRefusal r (afterKeep r (length picture))
 
   -- one record at bytes used
   unfoldable pub keepBuffer : Bytes
   keepBuffer =
-      unless keepRefused buffer (putBytes buffer (r .used) (recordBytes (editionOf r) (r .key) (nameOf r) (r .taken .0 + 1) (r .used) stamp picture))
+      unless keepRefusal buffer (putBytes buffer (r .used) (recordBytes (editionOf r) (r .key) (nameOf r) (r .taken .0 + 1) (r .used) stamp picture))
 
 -- ---- close
 unfoldable pub afterClose : Recorder → Recorder
@@ -147,18 +146,18 @@ recorderSeal r =
     closingSeal (editionOf r) (r .key) (identityOf r) (recorderHeader r) (recorderIndex r)
 
 module _ (r : Recorder) (buffer : Bytes) where
-  unfoldable pub closeRefused : ℕ
-  closeRefused = closeNumber (isSound (editionOf r) r) (r .kept .0) (r .used) (length buffer)
+  unfoldable pub closeRefusal : ℕ
+  closeRefusal = closeNumber (isSound (editionOf r) r) (r .kept .0) (r .used) (length buffer)
 
   unfoldable pub closeAnswer : Closed
   closeAnswer = record {
-    refusal = closeRefused;
+    refusal = closeRefusal;
     mark = 0;
-    total = pick (eqb closeRefused 0) (totalFrom (r .used) (r .kept .0)) 0;
-    recorder = pick (eqb closeRefused 0) (afterClose r) r;
+    total = cond (eqb closeRefusal 0) (totalFrom (r .used) (r .kept .0)) 0;
+    recorder = cond (eqb closeRefusal 0) (afterClose r) r;
   }
 
   -- header at the front; index and closing seal behind the records
   unfoldable pub closeBuffer : Bytes
   closeBuffer =
-      unless closeRefused buffer (putBytes (putBytes buffer 0 (recorderHeader r)) (r .used) (recorderIndex r ++ recorderSeal r))
+      unless closeRefusal buffer (putBytes (putBytes buffer 0 (recorderHeader r)) (r .used) (recorderIndex r ++ recorderSeal r))

@@ -1,46 +1,45 @@
 -- A place that 16 bits do not hold is answered like the largest that they hold: neither is below kept.
 -- Assumes nothing.
-use mathlib.Core.Bool.{Bool, true, false}
+use mathlib.Core.Bool.{Bool, true, false, cond}
 use mathlib.Core.Path.{_≡_, refl, sym, ap, _∙_}
 use Prim.Native.Nat.{ℕ, zero, suc, _≤_, _<_}
 use native.Mathlib.Omega.{arith}
 use borrow.Author.Tests.{ne-eqb, le-leb, ltb-true}
 use lib.Dec.{eqb, ltb}
 use Rattle.bytes_le.specs.Bytes.{Bytes}
-use Rattle.icepole.specs.Sealing.{pick}
 use Rattle.reader.specs.Front.{keptIn}
-use Rattle.reader.specs.Reader.{checkNumber, recordNumber, locateAnswer, fetchAnswer, fetchOutput}
+use Rattle.reader.specs.Reader.{checkRefusal, recordRefusal, locateAnswer, fetchAnswer, fetchOutput}
 use Rattle.reader.proofs.Answers.{accepted, fetch-refused}
 use Rattle.burst_c.specs.Calls.{placeOf}
 
 module _ (key f : Bytes) where
   -- check's number, else 13
-  far : (place : ℕ) → 65535 ≤ place → (n : ℕ) → checkNumber key f ≡ n → recordNumber key f place ≡ pick (eqb n 0) 13 n
-  unfolding recordNumber
+  far : (place : ℕ) → 65535 ≤ place → (n : ℕ) → checkRefusal key f ≡ n → recordRefusal key f place ≡ cond (eqb n 0) 13 n
+  unfolding recordRefusal
   far place h zero e =
       let w = accepted key f e .front in
       simp (e, le-leb (keptIn f) place (omega (arith, w .known, w .most, w .counts)))
   far place h (suc n) e = simp (e, ne-eqb (suc n) 0 (λ i. omega arith))
 
-  not-zero : (n : ℕ) → pick (eqb n 0) 13 n ≡ 0 → ⊥
+  not-zero : (n : ℕ) → cond (eqb n 0) 13 n ≡ 0 → ⊥
   not-zero zero h = omega arith
   not-zero (suc n) h = let z : suc n ≡ 0 = simp (ne-eqb (suc n) 0 (λ i. omega arith)) at h in omega arith
 
   module _ (place : ℕ) where
     module _ (h : 65535 < place) where
-      same-number : recordNumber key f place ≡ recordNumber key f 65535
-      same-number = far place (omega arith) (checkNumber key f) refl ∙ sym (far 65535 (omega arith) (checkNumber key f) refl)
+      same-number : recordRefusal key f place ≡ recordRefusal key f 65535
+      same-number = far place (omega arith) (checkRefusal key f) refl ∙ sym (far 65535 (omega arith) (checkRefusal key f) refl)
 
-      refused : recordNumber key f place ≡ 0 → ⊥
-      refused z = not-zero (checkNumber key f) (sym (far place (omega arith) (checkNumber key f) refl) ∙ z)
+      refused : recordRefusal key f place ≡ 0 → ⊥
+      refused z = not-zero (checkRefusal key f) (sym (far place (omega arith) (checkRefusal key f) refl) ∙ z)
 
       far-located : locateAnswer key f 65535 ≡ locateAnswer key f place
       unfolding locateAnswer
-      far-located = simp (sym same-number, ne-eqb (recordNumber key f place) 0 refused)
+      far-located = simp (sym same-number, ne-eqb (recordRefusal key f place) 0 refused)
 
     -- an answer for the place in 16 bits is the answer for the place
     module _ (q : ℕ) (is : q ≡ placeOf place) where
-      by : {A : Type 0} (answer : ℕ → A) (b : Bool) → ltb 65535 place ≡ b → (65535 < place → answer 65535 ≡ answer place) → answer (pick b 65535 place) ≡ answer place
+      by : {A : Type 0} (answer : ℕ → A) (b : Bool) → ltb 65535 place ≡ b → (65535 < place → answer 65535 ≡ answer place) → answer (cond b 65535 place) ≡ answer place
       by answer true t h = h (ltb-true _ _ t)
       by answer false t h = refl
 

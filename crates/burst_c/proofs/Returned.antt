@@ -1,6 +1,6 @@
 -- What the C calls of the reader return and write, from the answers of the calls below them.
 -- Assumes nothing.
-use mathlib.Core.Bool.{Bool, not}
+use mathlib.Core.Bool.{Bool, cond, not}
 use mathlib.Core.List.{List, [], _∷_, _++_, append-assoc}
 use mathlib.Core.Path.{_≡_, refl, sym, ap, ap₂, _∙_}
 use Prim.Native.Nat.{ℕ, zero, suc, _+_, _-_, _≤_, _<_}
@@ -10,14 +10,13 @@ use lib.Dec.{eqb, ltb}
 use lib.ListN.{length, take, drop, length-append, length-drop}
 use lib.Seq.{length-take-le}
 use Rattle.bytes_le.specs.Bytes.{Bytes, putBytes, le}
-use Rattle.icepole.specs.Sealing.{pick}
 use Rattle.burst.proofs.Puts.{grow}
 use Rattle.reader.specs.declared.Checked.{Checked}
 use Rattle.reader.specs.declared.Fetched.{Fetched}
 use Rattle.reader.specs.Front.{entryAt, positionOf}
-use Rattle.reader.specs.Reader.{checkAnswer, recordNumber, recordOffset, recordBytesIn, fetchNumber, fetchAnswer, fetchOutput}
+use Rattle.reader.specs.Reader.{checkAnswer, recordRefusal, recordOffset, recordBytesIn, fetchRefusal, fetchAnswer, fetchOutput}
 use Rattle.reader.proofs.Answers.{Found, record-refused, record-done, fetch-stands}
-use Rattle.burst_c.specs.Calls.{checkedBytes, fetchedBytes, checkCallNumber, checkCallInfo, fetchCallNumber, fetchCallOutput, fetchCallInfo}
+use Rattle.burst_c.specs.Calls.{checkedBytes, fetchedBytes, checkCallRefusal, checkCallInfo, fetchCallRefusal, fetchCallOutput, fetchCallInfo}
 
 -- ---- the info's fields, one behind the other
 pub check-put : (l h₁ h₂ h₃ h₄ h₅ s : Bytes) (i₁ i₂ i₃ i₄ b t k d : ℕ) → 30 ≤ length l → length s ≡ 16
@@ -48,21 +47,21 @@ module _ (key f info : Bytes) (c : Checked) (is : c ≡ checkAnswer key f) where
   number-is : checkAnswer key f .refusal ≡ c .refusal
   number-is = ap (λ (x : Checked). x .refusal) (sym is)
 
-  pub check-refused : (c .refusal ≡ 0 → ⊥) → (c .refusal ≡ checkCallNumber key f info) × (info ≡ checkCallInfo key f info)
-  unfolding checkCallInfo checkCallNumber
+  pub check-refused : (c .refusal ≡ 0 → ⊥) → (c .refusal ≡ checkCallRefusal key f info) × (info ≡ checkCallInfo key f info)
+  unfolding checkCallInfo checkCallRefusal
   check-refused h = let w = ne-eqb (c .refusal) 0 h in (sym (simp (number-is, w)), sym (simp (number-is, w)))
 
   module _ (z : c .refusal ≡ 0) where
     none : checkAnswer key f .refusal ≡ 0
     none = number-is ∙ z
 
-    pub check-short : length info < 30 → (5 ≡ checkCallNumber key f info) × (info ≡ checkCallInfo key f info)
-    unfolding checkCallInfo checkCallNumber
+    pub check-short : length info < 30 → (5 ≡ checkCallRefusal key f info) × (info ≡ checkCallInfo key f info)
+    unfolding checkCallInfo checkCallRefusal
     check-short h = (sym (simp (none, lt-ltb (length info) 30 h)), sym (simp (none, lt-ltb (length info) 30 h)))
 
     pub check-done : 30 ≤ length info → (info′ : Bytes) → info′ ≡ putBytes info 0 (checkedBytes c)
-        → (0 ≡ checkCallNumber key f info) × (info′ ≡ checkCallInfo key f info)
-    unfolding checkCallInfo checkCallNumber
+        → (0 ≡ checkCallRefusal key f info) × (info′ ≡ checkCallInfo key f info)
+    unfolding checkCallInfo checkCallRefusal
     check-done h info′ e = (
       sym (simp (none, le-ltb (length info) 30 h)),
       e ∙ ap (λ (x : Checked). putBytes info 0 (checkedBytes x)) is ∙ sym (simp (none, le-ltb (length info) 30 h)),
@@ -71,44 +70,44 @@ module _ (key f info : Bytes) (c : Checked) (is : c ≡ checkAnswer key f) where
 -- ---- fetch
 module _ (key f : Bytes) (place : ℕ) (out info : Bytes) where
   abbrev Stays : ℕ → Type 0
-  Stays num = (num ≡ fetchCallNumber key f place out info) × (out ≡ fetchCallOutput key f place out info) × (info ≡ fetchCallInfo key f place out info)
+  Stays num = (num ≡ fetchCallRefusal key f place out info) × (out ≡ fetchCallOutput key f place out info) × (info ≡ fetchCallInfo key f place out info)
 
-  stays : (num : ℕ) → fetchCallNumber key f place out info ≡ num → (num ≡ 0 → ⊥) → Stays num
+  stays : (num : ℕ) → fetchCallRefusal key f place out info ≡ num → (num ≡ 0 → ⊥) → Stays num
   unfolding fetchCallOutput fetchCallInfo
   stays num e h = let w = ne-eqb num 0 h in (sym e, sym (simp (e, w)), sym (simp (e, w)))
 
-  pub fetch-located : (num : ℕ) → num ≡ recordNumber key f place → (num ≡ 0 → ⊥) → Stays num
-  unfolding fetchCallNumber
+  pub fetch-located : (num : ℕ) → num ≡ recordRefusal key f place → (num ≡ 0 → ⊥) → Stays num
+  unfolding fetchCallRefusal
   fetch-located num e h = stays num (simp (sym e, ne-eqb num 0 h)) h
 
-  pub fetch-short : recordNumber key f place ≡ 0 → length info < 22 → Stays 5
-  unfolding fetchCallNumber
+  pub fetch-short : recordRefusal key f place ≡ 0 → length info < 22 → Stays 5
+  unfolding fetchCallRefusal
   fetch-short z h = stays 5 (simp (z, lt-ltb (length info) 22 h)) (λ e. omega arith)
 
   module _ (h : 22 ≤ length info) (r : Fetched) (is : r ≡ fetchAnswer key f place out) where
     answer-number : fetchAnswer key f place out .refusal ≡ r .refusal
     answer-number = ap (λ (x : Fetched). x .refusal) (sym is)
 
-    fetch-number : fetchNumber key f place out ≡ r .refusal
+    fetch-number : fetchRefusal key f place out ≡ r .refusal
     unfolding fetchAnswer
     fetch-number = answer-number
 
     -- a number, or 0
-    whole : (n : ℕ) → pick (not (eqb n 0)) n 0 ≡ n
+    whole : (n : ℕ) → cond (not (eqb n 0)) n 0 ≡ n
     whole zero = refl
     whole (suc n) = simp (ne-eqb (suc n) 0 (λ i. omega arith))
 
-    by-number : (m : ℕ) → recordNumber key f place ≡ m → fetchCallNumber key f place out info ≡ r .refusal
-    unfolding fetchCallNumber
+    by-number : (m : ℕ) → recordRefusal key f place ≡ m → fetchCallRefusal key f place out info ≡ r .refusal
+    unfolding fetchCallRefusal
     by-number zero e = simp (e, le-ltb (length info) 22 h, answer-number) (whole (r .refusal))
     by-number (suc m) e =
         simp (e, ne-eqb (suc m) 0 (λ i. omega arith)) (sym (fetch-stands key f place out m e) ∙ fetch-number)
 
-    same-number : fetchCallNumber key f place out info ≡ r .refusal
-    same-number = by-number (recordNumber key f place) refl
+    same-number : fetchCallRefusal key f place out info ≡ r .refusal
+    same-number = by-number (recordRefusal key f place) refl
 
     pub fetch-refused : (r .refusal ≡ 0 → ⊥) → (out′ : Bytes) → out′ ≡ fetchOutput key f place out
-        → (r .refusal ≡ fetchCallNumber key f place out info) × (out′ ≡ fetchCallOutput key f place out info) × (info ≡ fetchCallInfo key f place out info)
+        → (r .refusal ≡ fetchCallRefusal key f place out info) × (out′ ≡ fetchCallOutput key f place out info) × (info ≡ fetchCallInfo key f place out info)
     unfolding fetchOutput
     fetch-refused n out′ g =
         let w = stays (r .refusal) same-number n in
@@ -116,7 +115,7 @@ module _ (key f : Bytes) (place : ℕ) (out info : Bytes) where
         (w .0, g ∙ o ∙ w .1, w .2)
 
     pub fetch-done : r .refusal ≡ 0 → (out′ info′ : Bytes) → out′ ≡ fetchOutput key f place out → info′ ≡ putBytes info 0 (fetchedBytes r)
-        → (0 ≡ fetchCallNumber key f place out info) × (out′ ≡ fetchCallOutput key f place out info) × (info′ ≡ fetchCallInfo key f place out info)
+        → (0 ≡ fetchCallRefusal key f place out info) × (out′ ≡ fetchCallOutput key f place out info) × (info′ ≡ fetchCallInfo key f place out info)
     unfolding fetchCallOutput fetchCallInfo
     fetch-done z out′ info′ eo ei =
         let e = same-number ∙ z in
@@ -124,10 +123,10 @@ module _ (key f : Bytes) (place : ℕ) (out info : Bytes) where
 
 -- ---- record
 module _ (key f : Bytes) (place : ℕ) where
-  pub none-there : (recordNumber key f place ≡ 0 → ⊥) → (0 ≡ recordOffset key f place) × (0 ≡ length (recordBytesIn key f place))
+  pub none-there : (recordRefusal key f place ≡ 0 → ⊥) → (0 ≡ recordOffset key f place) × (0 ≡ length (recordBytesIn key f place))
   none-there h = let r = record-refused key f place h in (r .1, ap length (r .0))
 
-  pub record-size : Found key f place → recordNumber key f place ≡ 0 → entryAt f (positionOf f place) .length + 32 ≡ length (recordBytesIn key f place)
+  pub record-size : Found key f place → recordRefusal key f place ≡ 0 → entryAt f (positionOf f place) .length + 32 ≡ length (recordBytesIn key f place)
   record-size w z =
       let o = entryAt f (positionOf f place) .offset in
       let n = entryAt f (positionOf f place) .length in

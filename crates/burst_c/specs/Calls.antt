@@ -1,16 +1,15 @@
 -- What the C calls of include/burst.h return and write, over the answers of the reader's calls.
 -- Assumes nothing.
-use mathlib.Core.Bool.{Bool, not}
+use mathlib.Core.Bool.{Bool, cond, not}
 use mathlib.Core.List.{List, [], _∷_, _++_}
 use Prim.Native.Nat.{ℕ}
 use lib.Dec.{eqb, ltb}
 use lib.ListN.{length}
 use Rattle.bytes_le.specs.Bytes.{Bytes, putBytes, le}
-use Rattle.icepole.specs.Sealing.{pick}
 use Rattle.icepole.specs.Answers.{refusal, _when_, unless}
 use Rattle.reader.specs.declared.Checked.{Checked}
 use Rattle.reader.specs.declared.Fetched.{Fetched}
-use Rattle.reader.specs.Reader.{checkAnswer, recordNumber, fetchAnswer, fetchOutput}
+use Rattle.reader.specs.Reader.{checkAnswer, recordRefusal, fetchAnswer, fetchOutput}
 
 -- ---- the infos as bytes
 abbrev pub checkInfoLength : ℕ
@@ -29,32 +28,32 @@ fetchedBytes r = le 2 (r .shot .0) ++ (le 4 (r .length) ++ r .stamp)
 
 -- ---- check's numbers, then 5 for the info
 module _ (key f info : Bytes) where
-  unfoldable pub checkCallNumber : ℕ
-  checkCallNumber =
+  unfoldable pub checkCallRefusal : ℕ
+  checkCallRefusal =
       refusal
       ((checkAnswer key f .refusal when not (eqb (checkAnswer key f .refusal) 0))
       ∷ (5 when ltb (length info) checkInfoLength)
       ∷ [])
 
   unfoldable pub checkCallInfo : Bytes
-  checkCallInfo = unless checkCallNumber info (putBytes info 0 (checkedBytes (checkAnswer key f)))
+  checkCallInfo = unless checkCallRefusal info (putBytes info 0 (checkedBytes (checkAnswer key f)))
 
 -- ---- a place in 16 bits: what they do not hold becomes 65,535. No file has so many pictures, so that both are not below kept
 abbrev pub placeOf : ℕ → ℕ
-placeOf place = pick (ltb 65535 place) 65535 place
+placeOf place = cond (ltb 65535 place) 65535 place
 
 -- ---- check's numbers and 13, then 5 for the info, then what is left of fetch's: 5 for the output
 module _ (key f : Bytes) (place : ℕ) (out info : Bytes) where
-  unfoldable pub fetchCallNumber : ℕ
-  fetchCallNumber =
+  unfoldable pub fetchCallRefusal : ℕ
+  fetchCallRefusal =
       refusal
-      ((recordNumber key f place when not (eqb (recordNumber key f place) 0))
+      ((recordRefusal key f place when not (eqb (recordRefusal key f place) 0))
       ∷ (5 when ltb (length info) fetchInfoLength)
       ∷ (fetchAnswer key f place out .refusal when not (eqb (fetchAnswer key f place out .refusal) 0))
       ∷ [])
 
   unfoldable pub fetchCallOutput : Bytes
-  fetchCallOutput = unless fetchCallNumber out (fetchOutput key f place out)
+  fetchCallOutput = unless fetchCallRefusal out (fetchOutput key f place out)
 
   unfoldable pub fetchCallInfo : Bytes
-  fetchCallInfo = unless fetchCallNumber info (putBytes info 0 (fetchedBytes (fetchAnswer key f place out)))
+  fetchCallInfo = unless fetchCallRefusal info (putBytes info 0 (fetchedBytes (fetchAnswer key f place out)))

@@ -5,14 +5,14 @@ use icepole::OUTPUT_TOO_SHORT;
 use reader::Checked;
 use reader::Fetched;
 ghost use mathlib.Core.Path.{_≡_};
+ghost use mathlib.Core.Bool.{cond};
 ghost use Prim.Native.Nat.{_≤_};
 ghost use lib.ListN.{length};
 ghost use Rattle.bytes_le.specs.Bytes.{putBytes};
-ghost use Rattle.icepole.specs.Sealing.{pick};
-ghost use Rattle.reader.specs.Reader.{checkMark, recordNumber, recordOffset, recordBytesIn};
-ghost use Rattle.listing.specs.Listing.{listNumber, listAnswer, listOutput};
+ghost use Rattle.reader.specs.Reader.{checkMark, recordRefusal, recordOffset, recordBytesIn};
+ghost use Rattle.listing.specs.Listing.{listRefusal, listAnswer, listOutput};
 ghost use Rattle.replay.specs.Replay.{listOf, wholeScript, Replayed};
-ghost use Rattle.burst_c.specs.Calls.{checkedBytes, fetchedBytes, checkCallNumber, checkCallInfo, placeOf, fetchCallNumber, fetchCallOutput, fetchCallInfo};
+ghost use Rattle.burst_c.specs.Calls.{checkedBytes, fetchedBytes, checkCallRefusal, checkCallInfo, placeOf, fetchCallRefusal, fetchCallOutput, fetchCallInfo};
 
 // Bytes of what check and fetch put into the info.
 const CHECK_INFO: usize = 30;
@@ -35,7 +35,7 @@ pub extern "C" fn burst_replay(
     ensures { λ n. ⌜ Replayed
         (listOf (now (key .entry)) (record { name = record { «burst_number» = «burst_number» }; siteMark = now («site_mark» .entry) }) (length (now (buffer .entry))) (length (now (answers .entry))) (now (script .entry)))
         (now (answers .entry)) (now (answers .exit)) (now (buffer .entry)) (now (buffer .exit)) n ×
-        (now (whole .exit) ≡ pick (wholeScript (length (now (answers .entry))) (now (script .entry))) 1 0) ⌝ }
+        (now (whole .exit) ≡ cond (wholeScript (length (now (answers .entry))) (now (script .entry))) 1 0) ⌝ }
 {
     let p = replay::replay(key, burst_number, site_mark, script, buffer, answers);
     if !p.whole {
@@ -61,7 +61,7 @@ fn put_checked(c: Checked, info: &mut [u8])
 #[no_mangle]
 pub extern "C" fn burst_check(key: &[u8], file: &[u8], mark: &mut u32, info: &mut [u8]) -> u32
     ensures { λ n. ⌜
-        (n ≡ checkCallNumber (now (key .entry)) (now (file .entry)) (now (info .entry))) ×
+        (n ≡ checkCallRefusal (now (key .entry)) (now (file .entry)) (now (info .entry))) ×
         (now (mark .exit) ≡ checkMark (now (key .entry)) (now (file .entry))) ×
         (now (info .exit) ≡ checkCallInfo (now (key .entry)) (now (file .entry)) (now (info .entry))) ⌝ }
 {
@@ -108,7 +108,7 @@ pub extern "C" fn burst_fetch(
     info: &mut [u8],
 ) -> u32
     ensures { λ n. ⌜
-        (n ≡ fetchCallNumber (now (key .entry)) (now (file .entry)) place (now (out .entry)) (now (info .entry))) ×
+        (n ≡ fetchCallRefusal (now (key .entry)) (now (file .entry)) place (now (out .entry)) (now (info .entry))) ×
         (now (mark .exit) ≡ checkMark (now (key .entry)) (now (file .entry))) ×
         (now (out .exit) ≡ fetchCallOutput (now (key .entry)) (now (file .entry)) place (now (out .entry)) (now (info .entry))) ×
         (now (info .exit) ≡ fetchCallInfo (now (key .entry)) (now (file .entry)) place (now (out .entry)) (now (info .entry))) ⌝ }
@@ -141,7 +141,7 @@ pub extern "C" fn burst_record(
     size: &mut u32,
 ) -> u32
     ensures { λ n. ⌜
-        (n ≡ recordNumber (now (key .entry)) (now (file .entry)) place) ×
+        (n ≡ recordRefusal (now (key .entry)) (now (file .entry)) place) ×
         (now (mark .exit) ≡ checkMark (now (key .entry)) (now (file .entry))) ×
         (now (offset .exit) ≡ recordOffset (now (key .entry)) (now (file .entry)) place) ×
         (now (size .exit) ≡ length (recordBytesIn (now (key .entry)) (now (file .entry)) place)) ⌝ }
@@ -162,7 +162,7 @@ pub extern "C" fn burst_record(
 #[no_mangle]
 pub extern "C" fn burst_list(file: &[u8], text: &mut [u8], size: &mut u32) -> u32
     ensures { λ n. ⌜
-        (n ≡ listNumber (now (file .entry)) (now (text .entry))) ×
+        (n ≡ listRefusal (now (file .entry)) (now (text .entry))) ×
         (now (text .exit) ≡ listOutput (now (file .entry)) (now (text .entry))) ×
         (now (size .exit) ≡ listAnswer (now (file .entry)) (now (text .entry)) .length) ⌝ }
 {

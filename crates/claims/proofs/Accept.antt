@@ -1,6 +1,6 @@
 -- Demand 3: the reader accepts exactly the files of the lists, and what it reads back of an accepted file makes that file.
 -- Assumes nothing.
-use mathlib.Core.Bool.{Bool, true, false}
+use mathlib.Core.Bool.{Bool, true, false, cond}
 use mathlib.Core.List.{List, [], _∷_, _++_, append-assoc, append-nil}
 use mathlib.Core.Logic.{⊎-elim}
 use mathlib.Core.Path.{_≡_, refl, sym, ap, ap₂, subst, _∙_}
@@ -13,14 +13,13 @@ use lib.ListN.{length, take, drop, replicate, length-append, length-drop, take-a
 use lib.Seq.{drop-drop, take-take, take-add, length-take-le, take-all}
 use Rattle.bytes_le.specs.Bytes.{Bytes, AllBytes, le, unle, leAt}
 use Rattle.bytes_le.proofs.All.{all-take, all-drop}
-use Rattle.icepole.specs.Sealing.{pick}
 use Rattle.burst.specs.declared.Edition.{Edition}
 use Rattle.burst.specs.declared.Name.{Name}
 use Rattle.burst.specs.Editions.{fieldsLength, Known}
 use Rattle.burst.specs.Parts.{sealLength, sealPart, partMark, partBody}
 use Rattle.burst.specs.Layout.{Identity, headerRest, entryBytes, headerBytes, recordBytes, closingSeal}
 use Rattle.burst.specs.Index.{indexRules}
-use Rattle.trace.specs.Plain.{Shot, kept, gap, pictures, gaps, usedBy, records, index, Plain, headerOf, indexOf, fileOf, byValue, Call, keepShot, dropShot, closeBurst, CallList, numberOf, accepted, afterCall, afterCalls, begun, plainOf, beginRefusal}
+use Rattle.trace.specs.Plain.{Firing, kept, gap, pictures, gaps, usedBy, records, index, Plain, headerOf, indexOf, fileOf, byValue, Call, keepShot, dropShot, closeBurst, CallList, numberOf, accepted, afterCall, afterCalls, begun, plainOf, beginNumberOf}
 use Rattle.burst.proofs.Rows.{numbered-among}
 use Rattle.burst.proofs.Rules.{and-true, index-used}
 use Rattle.burst.proofs.Numbers.{keep-0, drop-0, close-0, begin-0}
@@ -28,7 +27,7 @@ use Rattle.burst.proofs.Parts.{part-sealed, length-mark, length-body, mark-byte
 use Rattle.reader.specs.declared.Checked.{Checked}
 use Rattle.reader.specs.declared.Verdict.the-variants.{Agree}
 use Rattle.reader.specs.Front.{editionIn, nameIn, allZero, restRules, takenIn, keptIn, droppedIn, indexOffsetIn, entryAt, entriesAt}
-use Rattle.reader.specs.Reader.{closingPart, recordPart, recordParts, agrees, markIn, bodyIn, verdictOn, checkNumber, checkAnswer}
+use Rattle.reader.specs.Reader.{closingPart, recordPart, recordParts, agrees, markIn, bodyIn, verdictOn, checkRefusal, checkAnswer}
 use Rattle.reader.proofs.Rules.{Front, entries-obey, entries-end}
 use Rattle.reader.proofs.Parts.{first-agrees}
 use Rattle.reader.proofs.Answers.{Accepted, accepted as obeyed}
@@ -87,7 +86,7 @@ module _ (f : Bytes) (fb : AllBytes f) where
       cc (g₁, g₂, g₃, g₄, t₁, t₂, t₃)
 
 -- ---- the list that a file says
-abbrev ShotBytes : List Shot → Type 0
+abbrev ShotBytes : List Firing → Type 0
 ShotBytes [] = Unit {0}
 ShotBytes (kept s p ∷ xs) = (AllBytes s × AllBytes p) × ShotBytes xs
 ShotBytes (gap ∷ xs) = ShotBytes xs
@@ -108,10 +107,10 @@ module _ (key f : Bytes) (fb : AllBytes f) (taken end : ℕ) (he : end ≤ lengt
   abbrev pictureIn : ℕ → Bytes
   pictureIn pos = bodyIn key f (recordPart f pos)
 
-  abbrev build : ℕ → ℕ → ℕ → ℕ → List Shot
+  abbrev build : ℕ → ℕ → ℕ → ℕ → List Firing
   build zero j n pos = []
   build (suc left) zero n pos = gap ∷ build left zero (n + 1) pos
-  build (suc left) (suc j) n pos = pick (eqb (shotAt pos) n) (kept (stampAt pos) (pictureIn pos) ∷ build left j (n + 1) (pos + 12)) (gap ∷ build left (suc j) (n + 1) pos)
+  build (suc left) (suc j) n pos = cond (eqb (shotAt pos) n) (kept (stampAt pos) (pictureIn pos) ∷ build left j (n + 1) (pos + 12)) (gap ∷ build left (suc j) (n + 1) pos)
 
   abbrev Rules : ℕ → ℕ → ℕ → ℕ → Type 0
   Rules j pos last at = indexRules last at taken end (entriesAt j pos f) ≡ true
@@ -130,7 +129,7 @@ module _ (key f : Bytes) (fb : AllBytes f) (taken end : ℕ) (he : end ≤ lengt
   ahead zero pos last at n e h = tt
   ahead (suc j) pos last at n e h = let w = entries-obey f last at taken end j pos h .0 .more in omega arith
 
-  record Built (xs : List Shot) (left j n pos at : ℕ) : Type 0 where
+  record Built (xs : List Firing) (left j n pos at : ℕ) : Type 0 where
     pub size : length xs ≡ left
     pub kept : pictures xs ≡ j
     pub valid : Valid xs
@@ -221,7 +220,7 @@ module _ (key f : Bytes) (fb : AllBytes f) (taken end : ℕ) (he : end ≤ lengt
       ∙ sym (ap (λ (k : ℕ). take k (drop at f)) q₂ ∙ take-add (len + 32) (end - (at + len + 32)) (drop at f)) in
       let l₁ = w .0 .least in
       let l₂ = w .0 .size in
-      subst (λ (l : List Shot). Built l (suc left) (suc j) n pos at) (sym (let g : build (suc left) (suc j) n pos ≡ kept s p ∷ ys = simp z in g))
+      subst (λ (l : List Firing). Built l (suc left) (suc j) n pos at) (sym (let g : build (suc left) (suc j) n pos ≡ kept s p ∷ ys = simp z in g))
       (record {
         size = ap suc (b .size);
         kept = ap suc (b .kept);
@@ -233,7 +232,7 @@ module _ (key f : Bytes) (fb : AllBytes f) (taken end : ℕ) (he : end ≤ lengt
       })
   built-step left j n pos last at false z h a hp r on off =
       let b = off (apart (shotAt pos) n a (eqb-false _ _ z)) in
-      subst (λ (l : List Shot). Built l (suc left) (suc j) n pos at) (sym (let q : build (suc left) (suc j) n pos ≡ gap ∷ build left (suc j) (n + 1) pos = simp z in q))
+      subst (λ (l : List Firing). Built l (suc left) (suc j) n pos at) (sym (let q : build (suc left) (suc j) n pos ≡ gap ∷ build left (suc j) (n + 1) pos = simp z in q))
       (record { size = ap suc (b .size); kept = b .kept; valid = b .valid; ends = b .ends; indexed = b .indexed; recorded = b .recorded; bytes = b .bytes })
 
   built : (left j n pos last at : ℕ) → n + left ≡ taken + 1 → last < n → Rules j pos last at → Ahead j n pos → pos + 12 * j ≤ length f
@@ -248,7 +247,7 @@ module _ (key f : Bytes) (fb : AllBytes f) (taken end : ℕ) (he : end ≤ lengt
       (λ g. built left (suc j) (n + 1) pos last at (omega arith) (omega arith) h g hp r)
 
 -- ---- the calls that make a list of shots
-abbrev callsOf : List Shot → List Call
+abbrev callsOf : List Firing → List Call
 callsOf [] = closeBurst ∷ []
 callsOf (kept s p ∷ xs) = keepShot s p ∷ callsOf xs
 callsOf (gap ∷ xs) = dropShot byValue ∷ callsOf xs
@@ -256,28 +255,28 @@ callsOf (gap ∷ xs) = dropShot byValue ∷ callsOf xs
 slice : (b : Bytes) → AllBytes b → length b ≤ 1048576 → Slice b
 slice b h s = record { bytes = h; size = omega arith }
 
-typed-calls : (xs : List Shot) → ShotBytes xs → Valid xs → TypedCalls (callsOf xs)
+typed-calls : (xs : List Firing) → ShotBytes xs → Valid xs → TypedCalls (callsOf xs)
 typed-calls [] b v = tt
 typed-calls (kept s p ∷ xs) b v = ((slice s (b .0 .0) (let h = v .0 .0 in omega arith), slice p (b .0 .1) (v .0 .2)), typed-calls xs (b .1) (v .1))
 typed-calls (gap ∷ xs) b v = typed-calls xs b v
 
 module _ (ed : Edition) (q : Plain) (n : ℕ) where
-  close-yes : (ys : List Shot) → usedBy (ed .header) ys + 12 * pictures ys + 32 ≤ n → afterCall ed n (with q ys false) closeBurst ≡ with q ys true
+  close-yes : (ys : List Firing) → usedBy (ed .header) ys + 12 * pictures ys + 32 ≤ n → afterCall ed n (with q ys false) closeBurst ≡ with q ys true
   unfolding afterCall numberOf accepted
   close-yes ys h = simp (sym (close-0 true (pictures ys) (usedBy (ed .header) ys) n refl h))
 
-  drop-yes : (ys : List Shot) → length ys < ed .shots → afterCall ed n (with q ys false) (dropShot byValue) ≡ with q (ys ++ (gap ∷ [])) false
+  drop-yes : (ys : List Firing) → length ys < ed .shots → afterCall ed n (with q ys false) (dropShot byValue) ≡ with q (ys ++ (gap ∷ [])) false
   unfolding afterCall numberOf accepted
   drop-yes ys h = simp (sym (drop-0 ed true (length ys) refl h))
 
-  keep-yes : (ys : List Shot) (s p : Bytes) → length s ≡ 16 → length ys < ed .shots → 1 ≤ length p → length p ≤ 1048576 → usedBy (ed .header) ys + length p + 32 + 12 * (pictures ys + 1) + 32 ≤ n
+  keep-yes : (ys : List Firing) (s p : Bytes) → length s ≡ 16 → length ys < ed .shots → 1 ≤ length p → length p ≤ 1048576 → usedBy (ed .header) ys + length p + 32 + 12 * (pictures ys + 1) + 32 ≤ n
       → afterCall ed n (with q ys false) (keepShot s p) ≡ with q (ys ++ (kept s p ∷ [])) false
   unfolding afterCall numberOf accepted
   keep-yes ys s p h₁ h₂ h₃ h₄ h₅ = simp (sym (keep-0 ed true (length ys) (pictures ys) (usedBy (ed .header) ys) (length s) (length p) n refl h₁ h₂ h₃ h₄ h₅))
 
-  runs : (xs ys : List Shot) → Valid xs → length ys + length xs ≤ ed .shots → usedBy (usedBy (ed .header) ys) xs + 12 * (pictures ys + pictures xs) + 32 ≤ n
+  runs : (xs ys : List Firing) → Valid xs → length ys + length xs ≤ ed .shots → usedBy (usedBy (ed .header) ys) xs + 12 * (pictures ys + pictures xs) + 32 ≤ n
       → afterCalls ed n (with q ys false) (callsOf xs) ≡ with q (ys ++ xs) true
-  runs [] ys v l h = close-yes ys (omega arith) ∙ ap (λ (zs : List Shot). with q zs true) (sym (append-nil ys))
+  runs [] ys v l h = close-yes ys (omega arith) ∙ ap (λ (zs : List Firing). with q zs true) (sym (append-nil ys))
   runs (kept s p ∷ xs) ys v l h =
       let a = used-least (usedBy (ed .header) ys + length p + 32) xs in
       let e = keep-yes ys s p (v .0 .0) (omega arith) (v .0 .1) (v .0 .2) (omega arith) in
@@ -285,14 +284,14 @@ module _ (ed : Edition) (q : Plain) (n : ℕ) where
       let e₂ : pictures (ys ++ (kept s p ∷ [])) ≡ pictures ys + 1 = pictures-append ys (kept s p ∷ []) in
       let e₃ : length (ys ++ (kept s p ∷ [])) ≡ length ys + 1 = length-append ys (kept s p ∷ []) in
       let h₁ : usedBy (usedBy (ed .header) (ys ++ (kept s p ∷ []))) xs + 12 * (pictures (ys ++ (kept s p ∷ [])) + pictures xs) + 32 ≤ n = rw (e₁, e₂) (omega arith) in
-      ap (λ (r : Plain). afterCalls ed n r (callsOf xs)) e ∙ runs xs (ys ++ (kept s p ∷ [])) (v .1) (omega arith) h₁ ∙ ap (λ (zs : List Shot). with q zs true) (append-assoc ys (kept s p ∷ []) xs)
+      ap (λ (r : Plain). afterCalls ed n r (callsOf xs)) e ∙ runs xs (ys ++ (kept s p ∷ [])) (v .1) (omega arith) h₁ ∙ ap (λ (zs : List Firing). with q zs true) (append-assoc ys (kept s p ∷ []) xs)
   runs (gap ∷ xs) ys v l h =
       let e = drop-yes ys (omega arith) in
       let e₁ : usedBy (ed .header) (ys ++ (gap ∷ [])) ≡ usedBy (ed .header) ys = used-append (ed .header) ys (gap ∷ []) in
       let e₂ : pictures (ys ++ (gap ∷ [])) ≡ pictures ys + 0 = pictures-append ys (gap ∷ []) in
       let e₃ : length (ys ++ (gap ∷ [])) ≡ length ys + 1 = length-append ys (gap ∷ []) in
       let h₁ : usedBy (usedBy (ed .header) (ys ++ (gap ∷ []))) xs + 12 * (pictures (ys ++ (gap ∷ [])) + pictures xs) + 32 ≤ n = rw (e₁, e₂) (omega arith) in
-      ap (λ (r : Plain). afterCalls ed n r (callsOf xs)) e ∙ runs xs (ys ++ (gap ∷ [])) v (omega arith) h₁ ∙ ap (λ (zs : List Shot). with q zs true) (append-assoc ys (gap ∷ []) xs)
+      ap (λ (r : Plain). afterCalls ed n r (callsOf xs)) e ∙ runs xs (ys ++ (gap ∷ [])) v (omega arith) h₁ ∙ ap (λ (zs : List Firing). with q zs true) (append-assoc ys (gap ∷ []) xs)
 
 -- ---- a header's bytes
 zeros-are : (l : Bytes) → allZero l ≡ true → l ≡ replicate (length l) 0
@@ -360,7 +359,7 @@ module _ (key f : Bytes) (kb : AllBytes key) (fb : AllBytes f) (ok : Accepted ke
   within : i ≤ length f
   within = let w = end-is in omega arith
 
-  abbrev xs : List Shot
+  abbrev xs : List Firing
   xs = build key f fb (takenIn f) i within (takenIn f) k 1 i
 
   made : Built key f fb (takenIn f) i within xs (takenIn f) k 1 i (editionIn f .header)
@@ -411,7 +410,7 @@ module _ (key f : Bytes) (kb : AllBytes key) (fb : AllBytes f) (ok : Accepted ke
   abbrev p : Plain
   p = record { key = key; identity = who; shots = xs; closed = true }
 
-  begins-0 : beginRefusal (editionIn f) l ≡ 0
+  begins-0 : beginNumberOf (editionIn f) l ≡ 0
   begins-0 = sym (begin-0 (editionIn f) (length key) (length m) (length f) (ok .key16) site16 (fr .least))
 
   plain-is : plainOf (editionIn f) l ≡ p
@@ -474,7 +473,7 @@ module _ (key f : Bytes) (kb : AllBytes key) (fb : AllBytes f) (ok : Accepted ke
     file = ap (fileOf (editionIn f)) plain-is ∙ file-is;
   }
 
-check-number : (key f : Bytes) → checkAnswer key f .refusal ≡ checkNumber key f
+check-number : (key f : Bytes) → checkAnswer key f .refusal ≡ checkRefusal key f
 unfolding checkAnswer
 check-number key f = refl
 

@@ -19,7 +19,7 @@ use Rattle.burst.specs.Editions.{maxEntries, numbered, Known}
 use Rattle.burst.specs.Parts.{Fits, partAgrees, partMark}
 use Rattle.burst.specs.Layout.{maxPicture, Identity, headerBytes, recordBytes, closingSeal}
 use Rattle.burst.specs.Index.{indexRules}
-use Rattle.trace.specs.Plain.{Shot, kept, gap, pictures, gaps, usedBy, records, index, Plain, headerOf, indexOf, fileOf, CallList, plainOf}
+use Rattle.trace.specs.Plain.{Firing, kept, gap, pictures, gaps, usedBy, records, index, Plain, headerOf, indexOf, fileOf, CallList, plainOf}
 use Rattle.burst.proofs.Rows.{known, written-among}
 use Rattle.burst.proofs.Puts.{length-header}
 use Rattle.burst.proofs.Parts.{part-agrees, part-mark}
@@ -27,7 +27,7 @@ use Rattle.reader.specs.declared.Checked.{Checked}
 use Rattle.reader.specs.declared.Verdict.the-variants.{Agree}
 use Rattle.reader.specs.declared.Fetched.{Fetched}
 use Rattle.reader.specs.Front.{editionIn, nameIn, headerIn, takenIn, keptIn, indexOffsetIn, entryAt, entriesAt, positionOf, frontRules}
-use Rattle.reader.specs.Reader.{closingPart, recordParts, agrees, markIn, verdictOn, checkNumber, checkMark, checkAnswer, recordNumber, recordOffset, recordBytesIn, notChecked, notFetched, fetchNumber, fetchAnswer, fetchOutput}
+use Rattle.reader.specs.Reader.{closingPart, recordParts, agrees, markIn, verdictOn, checkRefusal, checkMark, checkAnswer, recordRefusal, recordOffset, recordBytesIn, notChecked, notFetched, fetchRefusal, fetchAnswer, fetchOutput}
 use Rattle.reader.proofs.Rules.{front-is, front-at}
 use Rattle.reader.proofs.Answers.{check-not, check-zero, check-0, Found, found, record-zero, record-refused, record-done, fetch-0, fetch-not, fetch-refused}
 use Rattle.trace.specs.Agreement.{editionFor}
@@ -40,7 +40,7 @@ use Rattle.claims.proofs.Reading.{HeaderIn, header-in, entries-read, re
 -- ---- the file of a plain burst
 module _ (ed : Edition) (known-ed : Known ed) (p : Plain) (valid : Valid (p .shots)) (most : length (p .shots) ≤ ed .shots) (key16 : length (p .key) ≡ 16) (site16 : length (p .identity .siteMark) ≡ 16)
     (fits : Fits ed (p .identity .name)) where
-  abbrev xs : List Shot
+  abbrev xs : List Firing
   xs = p .shots
 
   few : length xs ≤ maxEntries
@@ -144,7 +144,7 @@ module _ (ed : Edition) (known-ed : Known ed) (p : Plain) (valid : Valid (p .sho
       ap₂ (λ (k i : ℕ). verdictOn (p .key) f (recordParts k i f)) (headed .kept) (headed .index)
       ∙ records-agree f (p .key) (length xs) u few (let c = bound in omega arith) xs 1 (ed .header) u cl (ix ++ cl) valid (omega arith) refl indexed recorded
 
-  accepted : checkNumber (p .key) f ≡ 0
+  accepted : checkRefusal (p .key) f ≡ 0
   accepted = check-zero (p .key) f key16 front-holds (closing-opens .0) records-open
 
   checked : checkAnswer (p .key) f ≡ record { refusal = 0; mark = 0; «burst_number» = p .identity .name .«burst_number»; «site_mark» = p .identity .siteMark; taken = record { 0 = length xs }; kept = record { 0 = pictures xs }; dropped = gaps xs }
@@ -175,7 +175,7 @@ module _ (ed : Edition) (known-ed : Known ed) (p : Plain) (valid : Valid (p .sho
       )
 
   sealed-record : (place : ℕ) (w : Picture) → pictureAt 1 (ed .header) xs place ≡ some w
-      → (recordNumber (p .key) f place ≡ 0)
+      → (recordRefusal (p .key) f place ≡ 0)
       × (recordOffset (p .key) f place ≡ w .offset)
       × (recordBytesIn (p .key) f place ≡ recordBytes ed (p .key) (p .identity .name) (w .shot) (w .offset) (w .stamp) (w .picture))
   sealed-record place w h =
@@ -190,15 +190,15 @@ module _ (ed : Edition) (known-ed : Known ed) (p : Plain) (valid : Valid (p .sho
 
   -- behind the last place nothing is given
   no-more : (place : ℕ) (out : Bytes) → pictures xs ≤ place → fetchAnswer (p .key) f place out .refusal ≡ 0 → ⊥
-  unfolding fetchAnswer fetchNumber
+  unfolding fetchAnswer fetchRefusal
   no-more place out h z =
       let k = headed .kept in
-      let e : fetchNumber (p .key) f place out ≡ 13 = simp (accepted, le-leb (keptIn f) place (omega arith)) in
+      let e : fetchRefusal (p .key) f place out ≡ 13 = simp (accepted, le-leb (keptIn f) place (omega arith)) in
       let y : _≡_ {A = ℕ} 13 0 = sym e ∙ z in
       omega arith
 
 -- ---- the list, from the answers alone
-picture-shot : (xs : List Shot) (n at place : ℕ) (w : Picture) → pictureAt n at xs place ≡ some w → n ≤ w .shot
+picture-shot : (xs : List Firing) (n at place : ℕ) (w : Picture) → pictureAt n at xs place ≡ some w → n ≤ w .shot
 picture-shot [] n at place w h = let z : _≡_ {A = ℕ} 0 1 = cc in absurd (omega arith)
 picture-shot (kept s p ∷ xs) n at zero w h = let e : n ≡ w .shot = ap (λ (x : Picture). x .shot) (Option·some-injective _ _ h) in omega arith
 picture-shot (kept s p ∷ xs) n at (suc place) w h = let g = picture-shot xs (n + 1) (at + length p + 32) place w h in omega arith
@@ -213,7 +213,7 @@ module _ (key f : Bytes) where
   answer w = record { refusal = 0; mark = 0; shot = record { 0 = w .shot }; stamp = w .stamp; length = length (w .picture) }
 
   -- from a place on, fetch gives the pictures of xs, and nothing more
-  record Gives (xs : List Shot) (n at place : ℕ) : Type 0 where
+  record Gives (xs : List Firing) (n at place : ℕ) : Type 0 where
     pub answers : (j : ℕ) (w : Picture) → pictureAt n at xs j ≡ some w → fetchAnswer key f (place + j) whole ≡ answer w
     pub outputs : (j : ℕ) (w : Picture) → pictureAt n at xs j ≡ some w → fetchOutput key f (place + j) whole ≡ putBytes whole 0 (w .picture)
     pub ends : (j : ℕ) → pictures xs ≤ j → fetchAnswer key f (place + j) whole .refusal ≡ 0 → ⊥
@@ -232,7 +232,7 @@ module _ (key f : Bytes) where
   read-none : (left n place : ℕ) → (fetchAnswer key f place whole .refusal ≡ 0 → ⊥) → readFrom key f (suc left) n place ≡ gap ∷ readFrom key f left (n + 1) place
   read-none left n place h = simp (ne-eqb (fetchAnswer key f place whole .refusal) 0 h)
 
-  read : (xs : List Shot) (n at place : ℕ) → Valid xs → Gives xs n at place → readFrom key f (length xs) n place ≡ xs
+  read : (xs : List Firing) (n at place : ℕ) → Valid xs → Gives xs n at place → readFrom key f (length xs) n place ≡ xs
   read [] n at place v g = refl
   read (kept s p ∷ xs) n at place v g =
       let w : Picture = record { shot = n; stamp = s; picture = p; offset = at } in
@@ -242,7 +242,7 @@ module _ (key f : Bytes) where
       (ap (λ (i : ℕ). fetchAnswer key f i whole) (sym e₀) ∙ g .answers 0 w refl)
       (ap (λ (i : ℕ). fetchOutput key f i whole) (sym e₀) ∙ g .outputs 0 w refl)
       refl (v .0 .2)
-      ∙ ap (λ (l : List Shot). kept s p ∷ l)
+      ∙ ap (λ (l : List Firing). kept s p ∷ l)
       (read xs (n + 1) (at + length p + 32) (place + 1) (v .1)
       (record {
         answers = λ j x h. ap (λ (i : ℕ). fetchAnswer key f i whole) (next j) ∙ g .answers (suc j) x h;
@@ -257,10 +257,10 @@ module _ (key f : Bytes) where
       let y = every xs (n + 1) at 0 (omega arith) in
       let m = picture-shot xs (n + 1) at 0 (y .0) (y .1) in
       read-other (length xs) n place (y .0) (ap (λ (i : ℕ). fetchAnswer key f i whole) (sym e₀) ∙ g .answers 0 (y .0) (y .1)) (λ e. omega arith))
-      ∙ ap (λ (l : List Shot). gap ∷ l) (read xs (n + 1) at place v (record { answers = g .answers; outputs = g .outputs; ends = g .ends }))
+      ∙ ap (λ (l : List Firing). gap ∷ l) (read xs (n + 1) at place v (record { answers = g .answers; outputs = g .outputs; ends = g .ends }))
 
 -- a picture of valid shots is in range
-picture-most : (xs : List Shot) (n at place : ℕ) (w : Picture) → Valid xs → pictureAt n at xs place ≡ some w → length (w .picture) ≤ maxPicture
+picture-most : (xs : List Firing) (n at place : ℕ) (w : Picture) → Valid xs → pictureAt n at xs place ≡ some w → length (w .picture) ≤ maxPicture
 picture-most [] n at place w v h = let z : _≡_ {A = ℕ} 0 1 = cc in absurd (omega arith)
 picture-most (kept s p ∷ xs) n at zero w v h =
     let e : length p ≡ length (w .picture) = ap (λ (x : Picture). length (x .picture)) (Option·some-injective _ _ h) in let g = v .0 .2 in omega arith
@@ -338,11 +338,11 @@ one-burst e e′ l l′ w w′ k q =
 
 -- ---- what is refused is withheld
 module _ (key f : Bytes) (place : ℕ) (out : Bytes) where
-  fetch-number : fetchAnswer key f place out .refusal ≡ fetchNumber key f place out
+  fetch-number : fetchAnswer key f place out .refusal ≡ fetchRefusal key f place out
   unfolding fetchAnswer
   fetch-number = refl
 
-  check-number : checkAnswer key f .refusal ≡ checkNumber key f
+  check-number : checkAnswer key f .refusal ≡ checkRefusal key f
   unfolding checkAnswer
   check-number = refl
 
@@ -350,28 +350,28 @@ module _ (key f : Bytes) (place : ℕ) (out : Bytes) where
   unfolding checkAnswer
   check-mark = refl
 
-  refused-with : (num : ℕ) → fetchNumber key f place out ≡ num → (num ≡ 0 → ⊥)
+  refused-with : (num : ℕ) → fetchRefusal key f place out ≡ num → (num ≡ 0 → ⊥)
       → (notFetched num (checkMark key f) ≡ fetchAnswer key f place out) × (out ≡ fetchOutput key f place out)
   refused-with zero e h = absurd (h refl)
   refused-with (suc num) e h = fetch-not key f place out num (checkMark key f) e refl
 
-  record-check : (checkNumber key f ≡ 0 → ⊥) → recordNumber key f place ≡ checkNumber key f
-  unfolding recordNumber
-  record-check h = simp (ne-eqb (checkNumber key f) 0 h)
+  record-check : (checkRefusal key f ≡ 0 → ⊥) → recordRefusal key f place ≡ checkRefusal key f
+  unfolding recordRefusal
+  record-check h = simp (ne-eqb (checkRefusal key f) 0 h)
 
-  check-zeros : (num mark : ℕ) → checkNumber key f ≡ num → checkMark key f ≡ mark → (num ≡ 0 → ⊥) → checkAnswer key f ≡ notChecked num mark
+  check-zeros : (num mark : ℕ) → checkRefusal key f ≡ num → checkMark key f ≡ mark → (num ≡ 0 → ⊥) → checkAnswer key f ≡ notChecked num mark
   check-zeros num mark e m h = sym (check-not key f num mark h (e, m))
 
   withheld : Withheld key f place out
   withheld = record {
     fetch = λ h.
-        let r = refused-with (fetchNumber key f place out) refl (λ e. h (fetch-number ∙ e)) in
+        let r = refused-with (fetchRefusal key f place out) refl (λ e. h (fetch-number ∙ e)) in
         (sym (r .1), sym (r .0) ∙ ap₂ notFetched (sym fetch-number) (sym check-mark));
     check = λ h.
-        let n : checkNumber key f ≡ 0 → ⊥ = λ e. h (check-number ∙ e) in
+        let n : checkRefusal key f ≡ 0 → ⊥ = λ e. h (check-number ∙ e) in
         let e = record-check n in
-        let r = fetch-refused key f place out (checkNumber key f) (checkMark key f) (sym e) refl n in (
-          check-zeros (checkNumber key f) (checkMark key f) refl refl n ∙ ap₂ notChecked (sym check-number) (sym check-mark),
+        let r = fetch-refused key f place out (checkRefusal key f) (checkMark key f) (sym e) refl n in (
+          check-zeros (checkRefusal key f) (checkMark key f) refl refl n ∙ ap₂ notChecked (sym check-number) (sym check-mark),
           sym (r .0) ∙ ap₂ notFetched (sym check-number) (sym check-mark),
           e ∙ sym check-number,
         );

@@ -1,16 +1,15 @@
 -- A burst that was begun can always be closed: begin and keep leave room for the close, which is what no later call takes away.
 -- Assumes nothing.
-use mathlib.Core.Bool.{Bool, true, false, not}
+use mathlib.Core.Bool.{Bool, true, false, cond, not}
 use mathlib.Core.List.{List, [], _∷_, _++_}
 use mathlib.Core.Path.{_≡_, refl, sym, ap, subst, _∙_}
 use Prim.Native.Nat.{ℕ, _+_, _*_, _≤_}
 use native.Mathlib.Omega.{arith}
 use lib.Dec.{eqb}
-use Rattle.icepole.specs.Sealing.{pick}
 use Rattle.burst.specs.declared.Edition.{Edition}
 use Rattle.burst.proofs.Rules.{clash}
 use Rattle.burst.proofs.Numbers.{keeps, begins, close-0}
-use Rattle.trace.specs.Plain.{kept, gap, pictures, usedBy, Plain, noBurst, Call, keepShot, dropShot, closeBurst, CallList, Answer, totalOf, numberOf, accepted, valueOf, afterCall, answerOf, afterCalls, answersOf, begun, plainOf, plainAnswers, beginRefusal}
+use Rattle.trace.specs.Plain.{kept, gap, pictures, usedBy, Plain, noBurst, Call, keepShot, dropShot, closeBurst, CallList, Answer, totalOf, numberOf, accepted, valueOf, afterCall, answerOf, afterCalls, answersOf, begun, plainOf, plainAnswers, beginNumberOf}
 use Rattle.trace.specs.Agreement.{editionFor}
 use Rattle.trace.proofs.Shots.{pictures-append, used-append}
 use Rattle.trace.proofs.Agreement.{agreement}
@@ -56,12 +55,12 @@ not-true : (b : Bool) → (b ≡ true → ⊥) → b ≡ false
 not-true true h = absurd (h refl)
 not-true false h = refl
 
-module _ (ed : Edition) (l : CallList) (z : beginRefusal ed l ≡ 0) (unclosed : CloseAnswered (l .calls) (rest (plainAnswers ed l)) → ⊥) where
+module _ (ed : Edition) (l : CallList) (z : beginNumberOf ed l ≡ 0) (unclosed : CloseAnswered (l .calls) (rest (plainAnswers ed l)) → ⊥) where
   room-begun : Room ed (l .bufferLength) (begun ed l)
   unfolding begun
   room-begun =
       let w = begins _ _ _ _ z .room in
-      subst (λ (k : ℕ). Room ed (l .bufferLength) (pick (eqb k 0) (record { key = l .key; identity = l .identity; shots = []; closed = false }) noBurst)) (sym z) (λ h. omega arith)
+      subst (λ (k : ℕ). Room ed (l .bufferLength) (cond (eqb k 0) (record { key = l .key; identity = l .identity; shots = []; closed = false }) noBurst)) (sym z) (λ h. omega arith)
 
   is-open : plainOf ed l .closed ≡ false
   is-open = not-true _ (λ c. unclosed (reached-answered ed l (record { begun = z; closed = c })))
@@ -73,11 +72,11 @@ module _ (ed : Edition) (l : CallList) (z : beginRefusal ed l ≡ 0) (unclosed :
   plain-then : plainAnswers ed (andClose l) ≡ plainAnswers ed l ++ (record { number = 0; mark = 0; value = totalOf ed (plainOf ed l) } ∷ [])
   unfolding plainAnswers plainOf begun
   plain-then =
-      ap (λ (xs : List Answer). let a : Answer = record { number = beginRefusal ed l; mark = 0; value = 0 } in a ∷ xs)
+      ap (λ (xs : List Answer). let a : Answer = record { number = beginNumberOf ed l; mark = 0; value = 0 } in a ∷ xs)
       (answers-then ed (l .bufferLength) (begun ed l) (l .calls) closeBurst
       ∙ ap (λ (a : Answer). answersOf ed (l .bufferLength) (begun ed l) (l .calls) ++ (a ∷ [])) (total-told ed (l .bufferLength) (plainOf ed l) closes-next))
 
-first-plain : (ed : Edition) (l : CallList) → firstNumber (plainAnswers ed l) ≡ beginRefusal ed l
+first-plain : (ed : Edition) (l : CallList) → firstNumber (plainAnswers ed l) ≡ beginNumberOf ed l
 unfolding plainAnswers
 first-plain ed l = refl
 
@@ -85,7 +84,7 @@ pub always-closes : AlwaysCloses
 always-closes l b hb z unclosed =
     let e = agreement l b hb .answers in
     let e′ = agreement (andClose l) b hb .answers in
-    let z′ : beginRefusal (editionFor l) l ≡ 0 = sym (first-plain (editionFor l) l) ∙ sym (ap firstNumber e) ∙ z in
+    let z′ : beginNumberOf (editionFor l) l ≡ 0 = sym (first-plain (editionFor l) l) ∙ sym (ap firstNumber e) ∙ z in
     let unclosed′ : CloseAnswered (l .calls) (rest (plainAnswers (editionFor l) l)) → ⊥ = λ a. unclosed (subst (λ (xs : List Answer). CloseAnswered (l .calls) (rest xs)) (sym e) a) in
     e′
     ∙ plain-then (editionFor l) l z′ unclosed′

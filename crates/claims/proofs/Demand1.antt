@@ -1,6 +1,6 @@
 -- Demand 1: each order by its tests, and each refused call by its number.
 -- Assumes nothing.
-use mathlib.Core.Bool.{Bool, true, false, not, _||_, _&&_}
+use mathlib.Core.Bool.{Bool, true, false, cond, not, _||_, _&&_}
 use mathlib.Core.List.{List, [], _∷_}
 use mathlib.Core.Logic.{_⊎_, inl, inr, _≢_}
 use mathlib.Core.Path.{_≡_, refl, sym, ap, subst, _∙_}
@@ -12,28 +12,27 @@ use lib.ListN.{length, drop}
 use Rattle.bytes_le.specs.Bytes.{Bytes}
 use Rattle.icepole.specs.declared.Variant.{Variant}
 use Rattle.icepole.specs.Variants.{sizes}
-use Rattle.icepole.specs.Sealing.{pick}
 use Rattle.icepole.specs.Answers.{maxLength, tagAgrees, fitsOutput, sealNumber, openNumber, sealRefusal, sealAnswer, sealOutput, openRefusal, openAnswer, openOutput}
 use Rattle.strips.specs.declared.StripState.{StripState}
 use Rattle.strips.specs.Answers.{startNumber, stripNumber, endNumber, startRefusal, startAnswer, startOutput, stripRefusal, stripAnswer, stripOutput, endRefusal, endAnswer, endOutput}
-use Rattle.icepole_c.specs.Calls.{fitsBoth, callInfo}
-use Rattle.icepole_c.specs.Strips.{stripStateLength, stripStateIn, startCallNumber, startCallOutput, startCallState, stripCallNumber, stripCallOutput, stripCallState, endCallNumber, endCallOutput, endCallState}
+use Rattle.icepole_c.specs.Calls.{fitsBoth, openCallInfo}
+use Rattle.icepole_c.specs.Strips.{stripStateLength, stripStateIn, startCallRefusal, startCallOutput, startCallState, stripCallRefusal, stripCallOutput, stripCallState, endCallRefusal, endCallOutput, endCallState}
 use Rattle.burst.specs.declared.Recorder.{Recorder}
 use Rattle.burst.specs.Editions.{written}
 use Rattle.burst.specs.Layout.{Identity, maxPicture}
 use Rattle.burst.proofs.Rules.{clash}
 use Rattle.burst.specs.Numbers.{usedAfter, totalFrom, beginNumber, keepNumber, dropNumber, closeNumber}
-use Rattle.burst.specs.Recorder.{editionOf, isSound, beginRefused, beginAnswer, beginBuffer, dropRefused, dropAnswer, keepRefused, keepAnswer, keepBuffer, closeRefused, closeAnswer, closeBuffer}
+use Rattle.burst.specs.Recorder.{editionOf, isSound, beginRefusal, beginAnswer, beginBuffer, dropRefusal, dropAnswer, keepRefusal, keepAnswer, keepBuffer, closeRefusal, closeAnswer, closeBuffer}
 use Rattle.trace.specs.Plain.{Call, keepShot, dropShot, closeBurst}
 use Rattle.trace.specs.Trace.{nextRecorder, nextBuffer, answerTo}
 use Rattle.reader.specs.Verdicts.{verdictNumber}
 use Rattle.reader.specs.Front.{keptIn, entryAt, positionOf, frontRules}
-use Rattle.reader.specs.Reader.{verdict, checkNumber, checkMark, checkAnswer, recordNumber, recordOffset, recordBytesIn, fetchNumber, fetchAnswer, fetchOutput}
+use Rattle.reader.specs.Reader.{verdict, checkRefusal, checkMark, checkAnswer, recordRefusal, recordOffset, recordBytesIn, fetchRefusal, fetchAnswer, fetchOutput}
 use Rattle.reader.proofs.Answers.{found}
 use Rattle.reader.proofs.Marks.{SomeDiffers, seven, differing, agreeing, mark-closing, mark-record}
-use Rattle.listing.specs.Listing.{listing, listNumber, listAnswer, listOutput}
+use Rattle.listing.specs.Listing.{listing, listRefusal, listAnswer, listOutput}
 use Rattle.listing.proofs.Lines.{listing-length}
-use Rattle.burst_c.specs.Calls.{checkInfoLength, fetchInfoLength, checkCallNumber, checkCallInfo, fetchCallNumber, fetchCallOutput, fetchCallInfo}
+use Rattle.burst_c.specs.Calls.{checkInfoLength, fetchInfoLength, checkCallRefusal, checkCallInfo, fetchCallRefusal, fetchCallOutput, fetchCallInfo}
 use Rattle.claims.specs.Demand1.{Refusal, _on_, FirstOf, SealNumber, Seal, orderOfOpen, OpenNumber, NoRoomToOpen, Verify, Open, OpenCall, orderOfStart, StartNumber, Start, orderOfStrip, Strip, orderOfEnd, End, StartCall, StripCall, EndCall, Begin, Keep, Drop, Close, InList, orderOfCheck, Check, orderAtPlace, Record, NoRoomToFetch, Fetch, CheckCall, FetchCall, Print, Demand1}
 use Rattle.claims.proofs.Orders.{Tells, differs, less, at-most, fails, holds, either, first, row, by-tests, NoZero, behind, then-tests}
 use Rattle.claims.proofs.Lists.{zero-or-not}
@@ -126,7 +125,7 @@ module _ (v : Variant) (key nonce ad c : Bytes) where
           record { yes = λ h. leb-false _ _ (not-true _ h); no′ = λ h g. let l = t .yes (not-false _ h) in omega arith }
 
       opens-in-c : OpenCall v key nonce ad c out info
-      unfolding openAnswer openOutput openRefusal callInfo
+      unfolding openAnswer openOutput openRefusal openCallInfo
       opens-in-c = record {
         order =
             opening v (length key) (length nonce) (length ad) (length c) (fitsBoth v key nonce ad c out info) tag _ (tag ≡ false)
@@ -174,12 +173,12 @@ module _ (key nonce secret ad out state : Bytes) where
   own = startRefusal key nonce secret ad out
 
   -- with room for the state the number is start's own
-  own-number : stripStateLength ≤ length state → own ≡ 0 → startCallNumber key nonce secret ad out state ≡ 0
-  unfolding startCallNumber
+  own-number : stripStateLength ≤ length state → own ≡ 0 → startCallRefusal key nonce secret ad out state ≡ 0
+  unfolding startCallRefusal
   own-number h e = simp (e, le-ltb (length state) stripStateLength h)
 
   starts-in-c : StartCall key nonce secret ad out state
-  unfolding startCallNumber startCallOutput startCallState startAnswer
+  unfolding startCallRefusal startCallOutput startCallState startAnswer
   starts-in-c = record {
     order =
         then-tests (orderOfStart (length key) (length nonce) (length secret) (length ad) (length out)) own (one-more 0, (one-more 1, (one-more 2, (one-more 3, (one-more 4, tt)))))
@@ -191,7 +190,7 @@ module _ (key nonce secret ad out state : Bytes) where
 
 module _ (state m out : Bytes) where
   strips-in-c : StripCall state m out
-  unfolding stripCallNumber stripCallOutput stripCallState
+  unfolding stripCallRefusal stripCallOutput stripCallState
   strips-in-c = record {
     order = first _ 5 _ _ (orderOfStrip (stripStateIn state) m out) (less (length state) stripStateLength) (strip-order (stripStateIn state) m out);
     refused = λ h. let z = ne-eqb _ 0 h in (simp z, simp z);
@@ -199,7 +198,7 @@ module _ (state m out : Bytes) where
 
 module _ (state out : Bytes) where
   ends-in-c : EndCall state out
-  unfolding endCallNumber endCallOutput endCallState
+  unfolding endCallRefusal endCallOutput endCallState
   ends-in-c = record {
     order = first _ 5 _ _ (orderOfEnd (stripStateIn state) out) (less (length state) stripStateLength) (end-order (stripStateIn state) out);
     refused = λ h. let z = ne-eqb _ 0 h in (simp z, simp z);
@@ -208,7 +207,7 @@ module _ (state out : Bytes) where
 -- ---- the recorder
 module _ (key : Bytes) (i : Identity) (buffer : Bytes) where
   begins : Begin key i buffer
-  unfolding beginAnswer beginBuffer beginRefused beginNumber
+  unfolding beginAnswer beginBuffer beginRefusal beginNumber
   begins = record {
     order =
         by-tests (row 1 (differs (length key) 16) ∷ row 3 (differs (length (i .siteMark)) 16) ∷ row 11 (less (length buffer) (totalFrom (written (length key) .header) 0)) ∷ []);
@@ -217,7 +216,7 @@ module _ (key : Bytes) (i : Identity) (buffer : Bytes) where
 
 module _ (r : Recorder) (stamp picture buffer : Bytes) where
   keeps : Keep r stamp picture buffer
-  unfolding keepAnswer keepBuffer keepRefused keepNumber
+  unfolding keepAnswer keepBuffer keepRefusal keepNumber
   keeps = record {
     order =
         by-tests (row 8 (fails (isSound (editionOf r) r)) ∷ row 3 (differs (length stamp) 16) ∷ row 9 (at-most (editionOf r .shots) (r .taken .0)) ∷ row 10 (either (less (length picture) 1) (less maxPicture (length picture))) ∷ row 11 (less (length buffer) (totalFrom (usedAfter (r .used) (length picture)) (r .kept .0 + 1))) ∷ []);
@@ -226,7 +225,7 @@ module _ (r : Recorder) (stamp picture buffer : Bytes) where
 
 module _ (r : Recorder) where
   drops : Drop r
-  unfolding dropAnswer dropRefused dropNumber
+  unfolding dropAnswer dropRefusal dropNumber
   drops = record {
     order = by-tests (row 8 (fails (isSound (editionOf r) r)) ∷ row 9 (at-most (editionOf r .shots) (r .taken .0)) ∷ []);
     refused = λ h. let z = ne-eqb _ 0 h in simp z;
@@ -234,7 +233,7 @@ module _ (r : Recorder) where
 
 module _ (r : Recorder) (buffer : Bytes) where
   closes : Close r buffer
-  unfolding closeAnswer closeBuffer closeRefused closeNumber
+  unfolding closeAnswer closeBuffer closeRefusal closeNumber
   closes = record {
     order = by-tests (row 8 (fails (isSound (editionOf r) r)) ∷ row 11 (less (length buffer) (totalFrom (r .used) (r .kept .0))) ∷ []);
     refused = λ h. let z = ne-eqb _ 0 h in (simp z, simp z);
@@ -248,18 +247,18 @@ in-lists r buffer closeBurst = record { refused = λ h. let z = ne-eqb _ 0 h in 
 
 -- ---- the reader
 -- a number that is 0, or else k where the condition holds
-by-number : (n k : ℕ) (c : Type 0) → (n ≢ 0 → c × (n ≡ k)) → (n ≡ 0 → c → ⊥) → FirstOf (pick (not (eqb n 0)) n 0) ((k on c) ∷ [])
+by-number : (n k : ℕ) (c : Type 0) → (n ≢ 0 → c × (n ≡ k)) → (n ≡ 0 → c → ⊥) → FirstOf (cond (not (eqb n 0)) n 0) ((k on c) ∷ [])
 by-number n k c f g =
     zero-or-not n _
-    (λ e. inr (g e, ap (λ (b : Bool). pick (not b) n 0) (eq-eqb n 0 e)))
-    (λ e. inl (f e .0, ap (λ (b : Bool). pick (not b) n 0) (ne-eqb n 0 e) ∙ f e .1))
+    (λ e. inr (g e, ap (λ (b : Bool). cond (not b) n 0) (eq-eqb n 0 e)))
+    (λ e. inl (f e .0, ap (λ (b : Bool). cond (not b) n 0) (ne-eqb n 0 e) ∙ f e .1))
 
 module _ (key f : Bytes) where
   abbrev told : ℕ
   told = verdictNumber (verdict key f)
 
-  check-order : FirstOf (checkNumber key f) (orderOfCheck key f)
-  unfolding checkNumber
+  check-order : FirstOf (checkRefusal key f) (orderOfCheck key f)
+  unfolding checkRefusal
   check-order =
       first _ 1 _ _ (drop 1 (orderOfCheck key f)) (differs (length key) 16)
       (first _ 12 _ _ (drop 2 (orderOfCheck key f)) (fails (frontRules f))
@@ -268,9 +267,9 @@ module _ (key f : Bytes) where
   check-some : NoZero (orderOfCheck key f)
   check-some = (one-more 0, (one-more 11, (one-more 6, tt)))
 
-  mark-0 : checkNumber key f ≢ 7 → checkMark key f ≡ 0
+  mark-0 : checkRefusal key f ≢ 7 → checkMark key f ≡ 0
   unfolding checkMark
-  mark-0 h = simp (ne-eqb (checkNumber key f) 7 h)
+  mark-0 h = simp (ne-eqb (checkRefusal key f) 7 h)
 
   checks : Check key f
   unfolding checkAnswer checkMark
@@ -279,22 +278,22 @@ module _ (key f : Bytes) where
     refused = λ h. let z = ne-eqb _ 0 h in simp z;
     mark-closing = λ h d. simp h (mark-closing key f d);
     mark-record = λ h a place l d g. simp h (mark-record key f a place l d g);
-    unmarked = λ h. simp (ne-eqb (checkNumber key f) 7 h);
+    unmarked = λ h. simp (ne-eqb (checkRefusal key f) 7 h);
     mark-left = refl;
   }
 
   -- a number behind check's: where it is not 7, neither is check's
-  behind-check : (n : ℕ) → pick (not (eqb (checkNumber key f) 0)) (checkNumber key f) n ≢ 7 → checkMark key f ≡ 0
-  behind-check n h = mark-0 (λ e. h (ap (λ (m : ℕ). pick (not (eqb m 0)) m n) e))
+  behind-check : (n : ℕ) → cond (not (eqb (checkRefusal key f) 0)) (checkRefusal key f) n ≢ 7 → checkMark key f ≡ 0
+  behind-check n h = mark-0 (λ e. h (ap (λ (m : ℕ). cond (not (eqb m 0)) m n) e))
 
 module _ (key f : Bytes) (place : ℕ) where
-  place-order : FirstOf (recordNumber key f place) (orderAtPlace key f place)
-  unfolding recordNumber
+  place-order : FirstOf (recordRefusal key f place) (orderAtPlace key f place)
+  unfolding recordRefusal
   place-order =
-      then-tests (orderOfCheck key f) (checkNumber key f) (check-some key f) (check-order key f) (row 13 (at-most (keptIn f) place) ∷ [])
+      then-tests (orderOfCheck key f) (checkRefusal key f) (check-some key f) (check-order key f) (row 13 (at-most (keptIn f) place) ∷ [])
 
-  place-mark : recordNumber key f place ≢ 7 → checkMark key f ≡ 0
-  unfolding recordNumber
+  place-mark : recordRefusal key f place ≢ 7 → checkMark key f ≡ 0
+  unfolding recordRefusal
   place-mark h = behind-check key f _ h
 
   records : Record key f place
@@ -303,33 +302,33 @@ module _ (key f : Bytes) (place : ℕ) where
 
 module _ (key f : Bytes) (place : ℕ) (out : Bytes) where
   fetches : Fetch key f place out
-  unfolding fetchAnswer fetchOutput fetchNumber checkAnswer
+  unfolding fetchAnswer fetchOutput fetchRefusal checkAnswer
   fetches = record {
     order =
-        then-tests (orderOfCheck key f) (checkNumber key f) (check-some key f) (check-order key f)
+        then-tests (orderOfCheck key f) (checkRefusal key f) (check-some key f) (check-order key f)
         (row 13 (at-most (keptIn f) place) ∷ row 5 (less (length out) (entryAt f (positionOf f place) .length)) ∷ []);
     refused = λ h. let z = ne-eqb _ 0 h in (simp z, simp z);
     unmarked = behind-check key f _;
   }
 
   -- at a place that there is, the output alone decides
-  output-decides : recordNumber key f place ≡ 0 → fetchAnswer key f place out .refusal ≡ pick (ltb (length out) (entryAt f (positionOf f place) .length)) 5 0
-  unfolding fetchAnswer fetchNumber
+  output-decides : recordRefusal key f place ≡ 0 → fetchAnswer key f place out .refusal ≡ cond (ltb (length out) (entryAt f (positionOf f place) .length)) 5 0
+  unfolding fetchAnswer fetchRefusal
   output-decides h = let w = found key f place h in simp (w .zero, lt-leb (keptIn f) place (w .below))
 
 module _ (key f info : Bytes) where
   checks-in-c : CheckCall key f info
-  unfolding checkCallNumber checkCallInfo checkAnswer
+  unfolding checkCallRefusal checkCallInfo checkAnswer
   checks-in-c = record {
     order =
-        then-tests (orderOfCheck key f) (checkNumber key f) (check-some key f) (check-order key f)
+        then-tests (orderOfCheck key f) (checkRefusal key f) (check-some key f) (check-order key f)
         (row 5 (less (length info) checkInfoLength) ∷ []);
     refused = λ h. let z = ne-eqb _ 0 h in simp z;
     unmarked = behind-check key f _;
   }
 
 -- 5 for the info and 5 for the output are one
-one-five : (a b : Bool) → _≡_ {A = ℕ} (pick a 5 (pick (not (eqb (pick b 5 0) 0)) (pick b 5 0) 0)) (pick (a || b) 5 0)
+one-five : (a b : Bool) → _≡_ {A = ℕ} (cond a 5 (cond (not (eqb (cond b 5 0) 0)) (cond b 5 0) 0)) (cond (a || b) 5 0)
 one-five true b = refl
 one-five false true = refl
 one-five false false = refl
@@ -341,27 +340,27 @@ module _ (key f : Bytes) (place : ℕ) (out info : Bytes) where
   abbrev outShort : Bool
   outShort = ltb (length out) (entryAt f (positionOf f place) .length)
 
-  fives : recordNumber key f place ≡ 0
-      → pick infoShort 5 (pick (not (eqb (fetchAnswer key f place out .refusal) 0)) (fetchAnswer key f place out .refusal) 0) ≡ pick (infoShort || outShort) 5 0
-  fives h = ap (λ (n : ℕ). pick infoShort 5 (pick (not (eqb n 0)) n 0)) (output-decides key f place out h) ∙ one-five infoShort outShort
+  fives : recordRefusal key f place ≡ 0
+      → cond infoShort 5 (cond (not (eqb (fetchAnswer key f place out .refusal) 0)) (fetchAnswer key f place out .refusal) 0) ≡ cond (infoShort || outShort) 5 0
+  fives h = ap (λ (n : ℕ). cond infoShort 5 (cond (not (eqb n 0)) n 0)) (output-decides key f place out h) ∙ one-five infoShort outShort
 
   abbrev fiveOrder : List Refusal
   fiveOrder = (5 on ((length info < fetchInfoLength) ⊎ NoRoomToFetch key f place out)) ∷ []
 
   fetches-in-c : FetchCall key f place out info
-  unfolding fetchCallNumber fetchCallOutput fetchCallInfo
+  unfolding fetchCallRefusal fetchCallOutput fetchCallInfo
   fetches-in-c = record {
     order =
-        behind (orderAtPlace key f place) fiveOrder (recordNumber key f place) _ (one-more 0, (one-more 11, (one-more 6, (one-more 12, tt)))) (place-order key f place)
+        behind (orderAtPlace key f place) fiveOrder (recordRefusal key f place) _ (one-more 0, (one-more 11, (one-more 6, (one-more 12, tt)))) (place-order key f place)
         (λ h. subst (λ (n : ℕ). FirstOf n fiveOrder) (sym (fives h))
         (by-tests (row 5 (either (less (length info) fetchInfoLength) (less (length out) (entryAt f (positionOf f place) .length))) ∷ [])));
     refused = λ h. let z = ne-eqb _ 0 h in (simp z, simp z);
-    unmarked = λ h. place-mark key f place (λ e. h (ap (λ (m : ℕ). pick (not (eqb m 0)) m (pick infoShort 5 (pick (not (eqb (fetchAnswer key f place out .refusal) 0)) (fetchAnswer key f place out .refusal) 0))) e));
+    unmarked = λ h. place-mark key f place (λ e. h (ap (λ (m : ℕ). cond (not (eqb m 0)) m (cond infoShort 5 (cond (not (eqb (fetchAnswer key f place out .refusal) 0)) (fetchAnswer key f place out .refusal) 0))) e));
   }
 
 -- ---- the lister
 prints : (f out : Bytes) → Print f out
-unfolding listAnswer listOutput listNumber
+unfolding listAnswer listOutput listRefusal
 prints f out = record {
   order = by-tests (row 5 (less (length out) (length (listing f))) ∷ []);
   refused = λ h. let z = ne-eqb _ 0 h in (simp z, simp z);

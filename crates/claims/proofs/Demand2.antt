@@ -20,7 +20,7 @@ use Rattle.icepole.proofs.Bounds.{bounded}
 use Rattle.icepole.proofs.Numbers.{OpenFits, open-0, open-fits, seal-0}
 use Rattle.icepole.proofs.OpenedBytes.{message-bytes, secret-bytes}
 use Rattle.icepole.proofs.Opening.{length-message-of, length-sealed, length-secret-of, message-of-sealed, opened, seal-open, secret-of-sealed, tag-of-sealed}
-use Rattle.icepole_c.specs.Calls.{callInfo, callOutput, callRefusal, fitsBoth}
+use Rattle.icepole_c.specs.Calls.{openCallInfo, openCallOutput, openCallRefusal, fitsBoth}
 use Rattle.claims.specs.Demand2.{Demand2, Genuine, Within, openDone, sealDone}
 
 module _ (v : Variant) where
@@ -77,10 +77,10 @@ module _ (v : Variant) where
 
     -- in C
     pub open-in-c : (out info : Bytes) → length m ≤ length out → 8 + sizes v .secret ≤ length info
-        → (callRefusal v k n a (sealed (sizes v) k n s a m) out info ≡ 0)
-        × (callOutput v k n a (sealed (sizes v) k n s a m) out info ≡ putBytes out 0 m)
-        × (callInfo v k n a (sealed (sizes v) k n s a m) out info ≡ putBytes info 0 (le 8 (length m) ++ s))
-    unfolding callInfo
+        → (openCallRefusal v k n a (sealed (sizes v) k n s a m) out info ≡ 0)
+        × (openCallOutput v k n a (sealed (sizes v) k n s a m) out info ≡ putBytes out 0 m)
+        × (openCallInfo v k n a (sealed (sizes v) k n s a m) out info ≡ putBytes info 0 (le 8 (length m) ++ s))
+    unfolding openCallInfo
     open-in-c out info r t =
         let c = sealed (sizes v) k n s a m in
         let e : fitsBoth v k n a c out info ≡ true = simp (le-leb (8 + sizes v .secret) (length info) t, fits-out out r) in

@@ -1,6 +1,6 @@
 -- What holds of the plain burst of every list: its arguments stay, its shots are valid, and it is closed exactly if a close was answered 0.
 -- Assumes nothing.
-use mathlib.Core.Bool.{Bool, true, false, not}
+use mathlib.Core.Bool.{Bool, true, false, cond, not}
 use mathlib.Core.List.{List, [], _∷_}
 use mathlib.Core.Logic.{inl, inr}
 use mathlib.Core.Path.{_≡_, refl, sym, ap, subst, _∙_}
@@ -10,10 +10,9 @@ use borrow.Author.Tests.{eqb-true, eqb-false, ne-eqb}
 use lib.Dec.{eqb}
 use lib.ListN.{length, length-append}
 use Rattle.bytes_le.specs.Bytes.{Bytes}
-use Rattle.icepole.specs.Sealing.{pick}
 use Rattle.burst.specs.declared.Edition.{Edition}
 use Rattle.burst.specs.Layout.{Identity}
-use Rattle.trace.specs.Plain.{kept, gap, Plain, noBurst, Way, Call, keepShot, dropShot, closeBurst, CallList, numberOf, accepted, afterCall, answerOf, afterCalls, answersOf, begun, plainOf, plainAnswers, beginRefusal}
+use Rattle.trace.specs.Plain.{kept, gap, Plain, noBurst, Way, Call, keepShot, dropShot, closeBurst, CallList, numberOf, accepted, afterCall, answerOf, afterCalls, answersOf, begun, plainOf, plainAnswers, beginNumberOf}
 use Rattle.burst.proofs.Rules.{clash}
 use Rattle.burst.proofs.Numbers.{keeps, drops, begins, keep-8, drop-8, close-8}
 use Rattle.trace.specs.Agreement.{Reached}
@@ -85,7 +84,7 @@ module _ (ed : Edition) where
   fine l r =
       let w = begins _ _ _ _ (r .begun) in
       fine-after (l .bufferLength) (l .key) (l .identity) (begun ed l) (l .calls)
-      (subst (λ (z : ℕ). Fine (l .key) (l .identity) (pick (eqb z 0) (record { key = l .key; identity = l .identity; shots = []; closed = false }) noBurst)) (sym (r .begun))
+      (subst (λ (z : ℕ). Fine (l .key) (l .identity) (cond (eqb z 0) (record { key = l .key; identity = l .identity; shots = []; closed = false }) noBurst)) (sym (r .begun))
       (record { key = refl; identity = refl; valid = tt; most = omega arith; key16 = w .key; site16 = w .mark }))
 
   -- ---- closed, exactly if a close was answered 0
@@ -151,13 +150,13 @@ module _ (ed : Edition) where
         (λ e. inr (closed-answered _ cs (ap (λ (q : Plain). q .closed) (close-refused p e) ∙ h) c))
 
   module _ (l : CallList) where
-    open-begun : beginRefusal ed l ≡ 0 → begun ed l .closed ≡ false
+    open-begun : beginNumberOf ed l ≡ 0 → begun ed l .closed ≡ false
     unfolding begun
     open-begun h = simp h
 
-    shut-begun : (beginRefusal ed l ≡ 0 → ⊥) → begun ed l .closed ≡ true
+    shut-begun : (beginNumberOf ed l ≡ 0 → ⊥) → begun ed l .closed ≡ true
     unfolding begun
-    shut-begun h = simp (ne-eqb (beginRefusal ed l) 0 h)
+    shut-begun h = simp (ne-eqb (beginNumberOf ed l) 0 h)
 
     pub reached-answered : Reached ed l → CloseAnswered (l .calls) (rest (plainAnswers ed l))
     unfolding plainAnswers plainOf
@@ -166,7 +165,7 @@ module _ (ed : Edition) where
     answered-reached : CloseAnswered (l .calls) (rest (plainAnswers ed l)) → Reached ed l
     unfolding plainAnswers plainOf
     answered-reached a =
-        zero-or-not (beginRefusal ed l) _
+        zero-or-not (beginNumberOf ed l) _
         (λ e. record { begun = e; closed = answered-closed (l .bufferLength) (begun ed l) (l .calls) (open-begun e) a })
         (λ e. absurd (none-answered (l .bufferLength) (begun ed l) (l .calls) (shut-begun e) a))
 

@@ -13,12 +13,12 @@ use Rattle.trace.specs.Plain.{totalOf, headerOf, indexOf, numberOf, accepted, v
 use Rattle.bytes_le.specs.Bytes.{leAt}
 use Rattle.burst.specs.Index.{entryRules, indexRules}
 use Rattle.reader.specs.Front.{entriesAt, restRules, frontRulesOf, frontRules}
-use Rattle.reader.specs.Reader.{checkNumber, recordNumber, fetchNumber}
+use Rattle.reader.specs.Reader.{checkRefusal, recordRefusal, fetchRefusal}
 use Rattle.strips.specs.Answers.{startNumber, stripNumber, endNumber}
 use Rattle.listing.specs.Text.{decimal}
 use Rattle.listing.specs.Listing.{frontLines, headLines, listing, shotLine, shotLines}
 use Rattle.claims.specs.Marked.{MarkedHold}
 
 pub marked-hold : MarkedHold
-unfolding numbered written headerRest restRules frontRulesOf bit number μ rotl stateOf sealNumber openNumber headerBytes nonceOf entryBytes beginNumber keepNumber dropNumber closeNumber totalOf headerOf indexOf numberOf accepted valueOf afterCall answerOf begun plainOf plainAnswers leAt entryRules indexRules entriesAt frontRules checkNumber recordNumber fetchNumber startNumber stripNumber endNumber decimal frontLines headLines listing shotLine shotLines
+unfolding numbered written headerRest restRules frontRulesOf bit number μ rotl stateOf sealNumber openNumber headerBytes nonceOf entryBytes beginNumber keepNumber dropNumber closeNumber totalOf headerOf indexOf numberOf accepted valueOf afterCall answerOf begun plainOf plainAnswers leAt entryRules indexRules entriesAt frontRules checkRefusal recordRefusal fetchRefusal startNumber stripNumber endNumber decimal frontLines headLines listing shotLine shotLines
 marked-hold = refl

@@ -1,6 +1,6 @@
 -- The number that a list of tests gives is that of the first condition to hold, where each test says whether its condition holds.
 -- Assumes nothing.
-use mathlib.Core.Bool.{Bool, true, false, not, _||_}
+use mathlib.Core.Bool.{Bool, true, false, cond, not, _||_}
 use mathlib.Core.List.{List, [], _∷_, _++_}
 use mathlib.Core.Logic.{_⊎_, inl, inr, _≢_}
 use mathlib.Core.Path.{_≡_, refl, sym, ap, subst, _∙_}
@@ -8,7 +8,6 @@ use Prim.Native.Nat.{ℕ, _≤_, _<_}
 use native.Mathlib.Omega.{arith}
 use borrow.Author.Tests.{eqb-true, eqb-false, eq-eqb, ne-eqb, ltb-true, ltb-false, leb-true, leb-false, not-true, not-false}
 use lib.Dec.{eqb, leb, ltb}
-use Rattle.icepole.specs.Sealing.{pick}
 use Rattle.burst.proofs.Rules.{clash}
 use Rattle.claims.specs.Demand1.{Refusal, _on_, FirstOf}
 
@@ -52,13 +51,13 @@ row n {b} {c} t = record { number = n; test = b; condition = c; tells = t }
 
 abbrev pub numberBy : List Row → ℕ
 numberBy [] = 0
-numberBy (r ∷ rs) = pick (r .test) (r .number) (numberBy rs)
+numberBy (r ∷ rs) = cond (r .test) (r .number) (numberBy rs)
 
 abbrev pub orderBy : List Row → List Refusal
 orderBy [] = []
 orderBy (r ∷ rs) = (r .number on r .condition) ∷ orderBy rs
 
-pub first : (b : Bool) (k n : ℕ) (c : Type 0) (rs : List Refusal) → Tells b c → FirstOf n rs → FirstOf (pick b k n) ((k on c) ∷ rs)
+pub first : (b : Bool) (k n : ℕ) (c : Type 0) (rs : List Refusal) → Tells b c → FirstOf n rs → FirstOf (cond b k n) ((k on c) ∷ rs)
 first true k n c rs t f = inl (t .yes refl, refl)
 first false k n c rs t f = inr (t .no′ refl, f)
 
@@ -71,10 +70,10 @@ NoZero [] = Unit {0}
 NoZero (r ∷ rs) = (r .number ≢ 0) × NoZero rs
 
 -- the number of one order, and where that is 0 of another behind it
-pub behind : (rs ss : List Refusal) (m n : ℕ) → NoZero rs → FirstOf m rs → (m ≡ 0 → FirstOf n ss) → FirstOf (pick (not (eqb m 0)) m n) (rs ++ ss)
-behind [] ss m n z f g = subst (λ (b : Bool). FirstOf (pick (not b) m n) ss) (sym (eq-eqb m 0 f)) (g f)
-behind (r ∷ rs) ss m n z (inl f) g = inl (f .0, ap (λ (b : Bool). pick (not b) m n) (ne-eqb m 0 (λ e. z .0 (sym (f .1) ∙ e))) ∙ f .1)
+pub behind : (rs ss : List Refusal) (m n : ℕ) → NoZero rs → FirstOf m rs → (m ≡ 0 → FirstOf n ss) → FirstOf (cond (not (eqb m 0)) m n) (rs ++ ss)
+behind [] ss m n z f g = subst (λ (b : Bool). FirstOf (cond (not b) m n) ss) (sym (eq-eqb m 0 f)) (g f)
+behind (r ∷ rs) ss m n z (inl f) g = inl (f .0, ap (λ (b : Bool). cond (not b) m n) (ne-eqb m 0 (λ e. z .0 (sym (f .1) ∙ e))) ∙ f .1)
 behind (r ∷ rs) ss m n z (inr f) g = inr (f .0, behind rs ss m n (z .1) (f .1) g)
 
-pub then-tests : (rs : List Refusal) (m : ℕ) → NoZero rs → FirstOf m rs → (ss : List Row) → FirstOf (pick (not (eqb m 0)) m (numberBy ss)) (rs ++ orderBy ss)
+pub then-tests : (rs : List Refusal) (m : ℕ) → NoZero rs → FirstOf m rs → (ss : List Row) → FirstOf (cond (not (eqb m 0)) m (numberBy ss)) (rs ++ orderBy ss)
 then-tests rs m z f ss = behind rs (orderBy ss) m (numberBy ss) z f (λ _. by-tests ss)

@@ -12,9 +12,9 @@ use lib.Dec.{eqb}
 use lib.ListN.{length, getD, take, drop, List·getD-append, length-append, List·getD-eq-default}
 use lib.Pow.{shr-shr}
 use lib.Seq.{getD-take, getD-drop, getD-append-seam}
-use Rattle.bits.specs.Bits.{bit, _⊕_ as _⊻_}
+use Rattle.bits.specs.Bits.{bit, _⊕_}
 use Rattle.bytes_le.specs.Bytes.{Bytes, AllBytes, le, unle}
-use Rattle.icepole.specs.Sealing.{_⊕_, pad, xorWith}
+use Rattle.icepole.specs.Sealing.{_⊕₈_, pad, xorWith}
 use Rattle.permutation.specs.State.{at, state, tabulate}
 use Rattle.state_bytes.specs.StateBytes.{bytesOf, stateOf, wordOf}
 use Rattle.bits.proofs.Cases.{two}
@@ -159,17 +159,17 @@ xor-at [] (y ∷ b) j h = absurd (not-suc-le-zero h)
 xor-at (x ∷ v) (y ∷ b) zero h = refl
 xor-at (x ∷ v) (y ∷ b) (suc j) h = xor-at v b j (le-of-suc-le-suc h)
 
-xor-bit : (v b : Bytes) (i : ℕ) → i < 8 * length v → bitOf (xorWith v b) i ≡ bitOf v i ⊻ bitOf b i
+xor-bit : (v b : Bytes) (i : ℕ) → i < 8 * length v → bitOf (xorWith v b) i ≡ bitOf v i ⊕ bitOf b i
 xor-bit v b i h =
     ap (λ (y : ℕ). bit y (i % 8)) (xor-at v b (i / 8) (omega arith)) ∙ bit-xor (getD v (i / 8) 0) (getD b (i / 8) 0) (i % 8)
 
-cipher-at : (v b : Bytes) (j : ℕ) → length b ≤ length v → j < length b → getD (v ⊕ b) j 0 ≡ bitXor (getD v j 0) (getD b j 0)
+cipher-at : (v b : Bytes) (j : ℕ) → length b ≤ length v → j < length b → getD (v ⊕₈ b) j 0 ≡ bitXor (getD v j 0) (getD b j 0)
 cipher-at v [] j h l = absurd (not-suc-le-zero l)
 cipher-at [] (y ∷ b) j h l = absurd (not-suc-le-zero h)
 cipher-at (x ∷ v) (y ∷ b) zero h l = refl
 cipher-at (x ∷ v) (y ∷ b) (suc j) h l = cipher-at v b j (le-of-suc-le-suc h) (le-of-suc-le-suc l)
 
-cipher-bit : (v b : Bytes) (i : ℕ) → length b ≤ length v → i < 8 * length b → bitOf (v ⊕ b) i ≡ bitOf v i ⊻ bitOf b i
+cipher-bit : (v b : Bytes) (i : ℕ) → length b ≤ length v → i < 8 * length b → bitOf (v ⊕₈ b) i ≡ bitOf v i ⊕ bitOf b i
 cipher-bit v b i h l =
     ap (λ (y : ℕ). bit y (i % 8)) (cipher-at v b (i / 8) h (omega arith)) ∙ bit-xor (getD v (i / 8) 0) (getD b (i / 8) 0) (i % 8)
 

@@ -17,7 +17,7 @@ use Rattle.burst.specs.Editions.{fieldsLength, maxEntries, Known}
 use Rattle.burst.specs.Parts.{Fits, partAgrees, partMark, partBody}
 use Rattle.burst.specs.Layout.{headerRest, entryBytes, headerBytes, recordBytes}
 use Rattle.burst.specs.Index.{entryOf}
-use Rattle.trace.specs.Plain.{Shot, kept, gap, pictures, usedBy, records, index}
+use Rattle.trace.specs.Plain.{Firing, kept, gap, pictures, usedBy, records, index}
 use Rattle.burst.proofs.Puts.{length-header}
 use Rattle.burst.proofs.Parts.{part-agrees, part-mark, part-body}
 use Rattle.reader.specs.Front.{editionIn, nameIn, allZero, restRules, editionNumberIn, takenIn, keptIn, droppedIn, pictureOffsetIn, indexOffsetIn, closingOffsetIn, totalIn, entryAt, entriesAt}
@@ -48,7 +48,7 @@ entry-in f rest pos n at len hn ha hl e = record {
 
 module _ (f key : Bytes) (taken end : ℕ) (ht : taken ≤ maxEntries) (he : end < 2 ^ 32) where
   -- the first entry of an index that starts with a kept shot
-  first-entry : (s p : Bytes) (xs : List Shot) (n at pos : ℕ) (rest : Bytes) → Valid (kept s p ∷ xs) → n + length (kept s p ∷ xs) ≤ taken + 1 → end ≡ usedBy at (kept s p ∷ xs)
+  first-entry : (s p : Bytes) (xs : List Firing) (n at pos : ℕ) (rest : Bytes) → Valid (kept s p ∷ xs) → n + length (kept s p ∷ xs) ≤ taken + 1 → end ≡ usedBy at (kept s p ∷ xs)
       → drop pos f ≡ index n at (kept s p ∷ xs) ++ rest → EntryIn f (index (n + 1) (at + length p + 32) xs ++ rest) pos n at (length p)
   first-entry s p xs n at pos rest v g e d =
       let a = used-least (at + length p + 32) xs in
@@ -56,7 +56,7 @@ module _ (f key : Bytes) (taken end : ℕ) (ht : taken ≤ maxEntries) (he : end
       (d ∙ append-assoc (entryBytes n 0 at (length p)) (index (n + 1) (at + length p + 32) xs) rest)
 
   -- the entries that the reader finds are those of the shots
-  pub entries-read : (xs : List Shot) (n at pos : ℕ) (rest : Bytes) → Valid xs → n + length xs ≤ taken + 1 → end ≡ usedBy at xs
+  pub entries-read : (xs : List Firing) (n at pos : ℕ) (rest : Bytes) → Valid xs → n + length xs ≤ taken + 1 → end ≡ usedBy at xs
       → drop pos f ≡ index n at xs ++ rest → entriesAt (pictures xs) pos f ≡ entries n at xs
   unfolding entriesAt
   entries-read [] n at pos rest v g e d = refl
@@ -108,7 +108,7 @@ module _ (f key : Bytes) (taken end : ℕ) (ht : taken ≤ maxEntries) (he : end
       }
 
   -- the record of a first kept shot, and the records behind it
-  first-record : (s p : Bytes) (xs : List Shot) (n at : ℕ) (rest : Bytes) → length s ≡ 16 → drop at f ≡ records (editionIn f) key (nameIn f) n at (kept s p ∷ xs) ++ rest
+  first-record : (s p : Bytes) (xs : List Firing) (n at : ℕ) (rest : Bytes) → length s ≡ 16 → drop at f ≡ records (editionIn f) key (nameIn f) n at (kept s p ∷ xs) ++ rest
       → (drop at f ≡ recordBytes (editionIn f) key (nameIn f) n at s p ++ (records (editionIn f) key (nameIn f) (n + 1) (at + length p + 32) xs ++ rest))
       × (drop (at + length p + 32) f ≡ records (editionIn f) key (nameIn f) (n + 1) (at + length p + 32) xs ++ rest)
   first-record s p xs n at rest hs d =
@@ -119,7 +119,7 @@ module _ (f key : Bytes) (taken end : ℕ) (ht : taken ≤ maxEntries) (he : end
       let q : at + length rb ≡ at + length p + 32 = omega arith in
       (d₃, ap (λ (k : ℕ). drop k f) (sym q) ∙ sym (drop-drop (length rb) at f) ∙ ap (drop (length rb)) d₃ ∙ drop-at rb rs (length rb) refl)
 
-  pub records-agree : (xs : List Shot) (n at pos : ℕ) (rest rest₂ : Bytes) → Valid xs → n + length xs ≤ taken + 1 → end ≡ usedBy at xs
+  pub records-agree : (xs : List Firing) (n at pos : ℕ) (rest rest₂ : Bytes) → Valid xs → n + length xs ≤ taken + 1 → end ≡ usedBy at xs
       → drop pos f ≡ index n at xs ++ rest → drop at f ≡ records (editionIn f) key (nameIn f) n at xs ++ rest₂ → verdictOn key f (recordParts (pictures xs) pos f) ≡ Agree
   records-agree [] n at pos rest rest₂ v g e d d₂ = parts-end key f pos
   records-agree (kept s p ∷ xs) n at pos rest rest₂ v g e d d₂ =
@@ -134,7 +134,7 @@ module _ (f key : Bytes) (taken end : ℕ) (ht : taken ≤ maxEntries) (he : end
     pub entry : entryAt f pos ≡ entryOf (w .shot) (w .offset) (length (w .picture))
     pub opens : OpensTo pos (w .stamp) (w .picture) (recordBytes (editionIn f) key (nameIn f) (w .shot) (w .offset) (w .stamp) (w .picture))
 
-  pub placed : (xs : List Shot) (n at pos place : ℕ) (rest rest₂ : Bytes) (w : Picture) → Valid xs → n + length xs ≤ taken + 1 → end ≡ usedBy at xs
+  pub placed : (xs : List Firing) (n at pos place : ℕ) (rest rest₂ : Bytes) (w : Picture) → Valid xs → n + length xs ≤ taken + 1 → end ≡ usedBy at xs
       → drop pos f ≡ index n at xs ++ rest → drop at f ≡ records (editionIn f) key (nameIn f) n at xs ++ rest₂ → pictureAt n at xs place ≡ some w → Placed (pos + 12 * place) w
   placed [] n at pos place rest rest₂ w v g e d d₂ h = let z : _≡_ {A = ℕ} 0 1 = cc in absurd (omega arith)
   placed (kept s p ∷ xs) n at pos zero rest rest₂ w v g e d d₂ h =
@@ -151,13 +151,13 @@ module _ (f key : Bytes) (taken end : ℕ) (ht : taken ≤ maxEntries) (he : end
   placed (gap ∷ xs) n at pos place rest rest₂ w v g e d d₂ h = placed xs (n + 1) at pos place rest rest₂ w v (omega arith) e d d₂ h
 
 -- ---- places and shots
-pub every : (xs : List Shot) (n at place : ℕ) → place < pictures xs → (w : Picture) × (pictureAt n at xs place ≡ some w)
+pub every : (xs : List Firing) (n at place : ℕ) → place < pictures xs → (w : Picture) × (pictureAt n at xs place ≡ some w)
 every [] n at place h = absurd (omega arith)
 every (kept s p ∷ xs) n at zero h = (record { shot = n; stamp = s; picture = p; offset = at }, refl)
 every (kept s p ∷ xs) n at (suc place) h = every xs (n + 1) (at + length p + 32) place (omega arith)
 every (gap ∷ xs) n at place h = every xs (n + 1) at place h
 
-pub below : (xs : List Shot) (n at place : ℕ) (w : Picture) → pictureAt n at xs place ≡ some w → place < pictures xs
+pub below : (xs : List Firing) (n at place : ℕ) (w : Picture) → pictureAt n at xs place ≡ some w → place < pictures xs
 below [] n at place w h = let z : _≡_ {A = ℕ} 0 1 = cc in absurd (omega arith)
 below (kept s p ∷ xs) n at zero w h = omega arith
 below (kept s p ∷ xs) n at (suc place) w h = let g = below xs (n + 1) (at + length p + 32) place w h in omega arith

@@ -1,7 +1,7 @@
 -- Lists of the C calls of strips are lists of strips: the slice has at its front the state that the list of strips has, and after it what it had before.
 -- Assumes nothing.
 use mathlib.Core.Path.{_≡_, refl, sym, ap, ap₂, _∙_}
-use mathlib.Core.Bool.{Bool, true, false, not}
+use mathlib.Core.Bool.{Bool, true, false, cond, not}
 use mathlib.Core.List.{List, [], _∷_, _++_, append-assoc, map}
 use Prim.Native.Nat.{ℕ, zero, suc, _+_, _%_, _≤_, _<_}
 use native.Mathlib.Omega.{arith}
@@ -11,14 +11,13 @@ use lib.ListN.{length, take, drop, getD, length-append}
 use lib.Seq.{take-at, drop-at, getD-append-seam}
 use Rattle.bytes_le.specs.Bytes.{Bytes, putBytes, le, leAt, unle}
 use Rattle.bytes_le.proofs.Laws.{put-front, unle-8}
-use Rattle.icepole.specs.Sealing.{pick}
 use Rattle.icepole.specs.Answers.{maxLength, unless}
 use Rattle.strips.specs.declared.StripState.{StripState}
 use Rattle.strips.specs.declared.StripAnswer.{StripAnswer}
 use Rattle.strips.specs.Answers.{endAnswer, endOutput, endRefusal, heldIn, notStarted, startAnswer, startOutput, started, stripAnswer, stripOutput, stripRefusal}
 use Rattle.strips.proofs.Machine.{length-fed-state}
 use Rattle.strips.proofs.Numbers.{strip-fits}
-use Rattle.icepole_c.specs.Strips.{flag, stripStateBytes, stripStateIn, startCallNumber, startCallOutput, startCallState, stripCallNumber, stripCallOutput, stripCallState, endCallNumber, endCallOutput, endCallState}
+use Rattle.icepole_c.specs.Strips.{flag, stripStateBytes, stripStateIn, startCallRefusal, startCallOutput, startCallState, stripCallRefusal, stripCallOutput, stripCallState, endCallRefusal, endCallOutput, endCallState}
 use Rattle.icepole_c.proofs.StripCalls.{end-short, start-number, start-short, start-short-refused, strip-short, twice}
 use Rattle.claims.specs.StripLists.{Call, StatePasses, StripCallLists, StripList, Told, answerTo, endOf, lentTo, numberC, numbersFromC, outputC, outputOf, outputsFrom, outputsFromC, runNumbersC, runOutputs, runOutputsC, runSliceC, runState, runTold, sliceC, sliceFromC, startNumberOf, startSliceC, startTo, stateFrom, stripOf, toldFrom}
 use Rattle.claims.proofs.StripLists.{afterState, answer-is, hu, numberBy, start-is, turned}
@@ -87,11 +86,11 @@ good-done s g (endOf o) e = record { bytes = g .bytes; count = g .count }
 -- the state after a call, by its number
 state-done : (s : StripState) (c : Call) → numberBy s c ≡ 0 → answerTo s c .state ≡ afterState s c
 state-done s c e =
-    ap (λ (a : StripAnswer). a .state) (answer-is s c) ∙ ap (λ (n : ℕ). pick (eqb n 0) (afterState s c) s) e
+    ap (λ (a : StripAnswer). a .state) (answer-is s c) ∙ ap (λ (n : ℕ). cond (eqb n 0) (afterState s c) s) e
 
 state-refused : (s : StripState) (c : Call) (n : ℕ) → numberBy s c ≡ suc n → answerTo s c .state ≡ s
 state-refused s c n e =
-    ap (λ (a : StripAnswer). a .state) (answer-is s c) ∙ ap (λ (n : ℕ). pick (eqb n 0) (afterState s c) s) e ∙ turned n (afterState s c) s
+    ap (λ (a : StripAnswer). a .state) (answer-is s c) ∙ ap (λ (n : ℕ). cond (eqb n 0) (afterState s c) s) e ∙ turned n (afterState s c) s
 
 good-next : (s : StripState) → Good s → (c : Call) → Good (answerTo s c .state)
 good-next s g c = by (numberBy s c) refl
@@ -120,7 +119,7 @@ module _ (b : Bytes) (hb : 169 ≤ length b) (s : StripState) (g : Good s) where
   reads = let h = g .count in ap stripStateIn (sym (put-is b s g)) ∙ state-passes b s hb (g .bytes) (omega arith)
 
   number-is : (c : Call) → numberC (slice s b) c ≡ numberBy s c
-  unfolding numberC stripCallNumber endCallNumber stripRefusal endRefusal numberBy
+  unfolding numberC stripCallRefusal endCallRefusal stripRefusal endRefusal numberBy
   number-is (stripOf m o) = simp (le-ltb (length (slice s b)) 169 room) (ap (λ (s : StripState). stripRefusal s m o) reads)
   number-is (endOf o) = simp (le-ltb (length (slice s b)) 169 room) (ap (λ (s : StripState). endRefusal s o) reads)
 
@@ -175,7 +174,7 @@ module _ (l : StripList) (st : Bytes) where
     unfolding startCallState
     start-slice = simp (le-ltb (length st) 169 h) (put-is st (startTo l .state) (good-start l))
 
-    start-number-is : startCallNumber (l .key) (l .nonce) (l .secret) (l .associated) (l .out) st ≡ startTo l .refusal
+    start-number-is : startCallRefusal (l .key) (l .nonce) (l .secret) (l .associated) (l .out) st ≡ startTo l .refusal
     unfolding startAnswer
     start-number-is = start-number (l .key) (l .nonce) (l .secret) (l .associated) (l .out) st h
 
@@ -221,19 +220,19 @@ module _ (l : StripList) (st : Bytes) where
 
     abbrev Started : ℕ → Type 0
     Started n =
-        (n ≡ startCallNumber (l .key) (l .nonce) (l .secret) (l .associated) (l .out) st)
+        (n ≡ startCallRefusal (l .key) (l .nonce) (l .secret) (l .associated) (l .out) st)
         × (l .out ≡ startCallOutput (l .key) (l .nonce) (l .secret) (l .associated) (l .out) st)
         × (st ≡ startSliceC l st)
 
-    short-start : Started (pick (eqb (startNumberOf l) 0) 5 (startNumberOf l))
+    short-start : Started (cond (eqb (startNumberOf l) 0) 5 (startNumberOf l))
     short-start = by (startNumberOf l) refl
       where
-        by : (n : ℕ) → n ≡ startNumberOf l → Started (pick (eqb n 0) 5 n)
+        by : (n : ℕ) → n ≡ startNumberOf l → Started (cond (eqb n 0) 5 n)
         by zero e = start-short (l .key) (l .nonce) (l .secret) (l .associated) (l .out) st h 0 e refl
         by (suc n) e =
             rw (turned n 5 (suc n)) (start-short-refused (l .key) (l .nonce) (l .secret) (l .associated) (l .out) st h (suc n) e (λ z. omega arith))
 
-    list-short : (runNumbersC l st ≡ pick (eqb (startNumberOf l) 0) 5 (startNumberOf l) ∷ map (λ (c : Call). 5) (l .calls))
+    list-short : (runNumbersC l st ≡ cond (eqb (startNumberOf l) 0) 5 (startNumberOf l) ∷ map (λ (c : Call). 5) (l .calls))
         × (runOutputsC l st ≡ l .out ∷ map lentTo (l .calls))
         × (runSliceC l st ≡ st)
     unfolding runNumbersC runOutputsC runSliceC

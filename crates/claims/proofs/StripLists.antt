@@ -1,7 +1,7 @@
 -- Any list of calls gives what whole sealing gives: a state and the plain message that belongs to it go together, call by call.
 -- Assumes nothing.
 use mathlib.Core.Path.{_≡_, refl, sym, ap, ap₂, subst, _∙_}
-use mathlib.Core.Bool.{Bool, true, false}
+use mathlib.Core.Bool.{Bool, true, false, cond}
 use mathlib.Core.List.{List, [], _∷_, _++_, append-assoc, append-nil}
 use Prim.Native.Nat.{ℕ, zero, suc, _+_, _≤_}
 use native.Mathlib.Omega.{arith}
@@ -14,7 +14,7 @@ use Rattle.bytes_le.proofs.Laws.{take-put}
 use Rattle.state_bytes.proofs.Lengths.{length-permuted}
 use Rattle.icepole.specs.declared.Variant.the-variants.{Icepole128}
 use Rattle.icepole.specs.Variants.{sizes}
-use Rattle.icepole.specs.Sealing.{_⊕_, keyed, pick, ready, sealed}
+use Rattle.icepole.specs.Sealing.{_⊕₈_, keyed, ready, sealed}
 use Rattle.icepole.specs.Answers.{maxLength, unless}
 use Rattle.icepole.proofs.Opening.{length-keyed, length-ready}
 use Rattle.icepole.proofs.Xor.{length-xor}
@@ -27,7 +27,7 @@ use Rattle.strips.proofs.Machine.{bytes-join, fed-fill, fed-join, length-fed, w
 use Rattle.strips.proofs.Numbers.{StartFits, end-0, end-14, end-open, over, start-accepted, start-fits, strip-0, strip-14, strip-fits, takes}
 
 -- where the number is not 0
-pub turned : {A : Type 0} (n : ℕ) (a b : A) → pick (eqb (suc n) 0) a b ≡ b
+pub turned : {A : Type 0} (n : ℕ) (a b : A) → cond (eqb (suc n) 0) a b ≡ b
 turned n a b = rw (ne-eqb (suc n) 0 (λ z. omega arith)) refl
 
 -- ---- one call, whatever it is
@@ -80,7 +80,7 @@ module _ (u : Bytes) (s : StripState) (p : PlainMessage) (g : Rel u s p) where
 
     refused-plain : afterCall p c ≡ p
     unfolding afterCall
-    refused-plain = ap (λ (n : ℕ). pick (eqb n 0) (accepted p c) p) e ∙ turned n (accepted p c) p
+    refused-plain = ap (λ (n : ℕ). cond (eqb n 0) (accepted p c) p) e ∙ turned n (accepted p c) p
 
   module _ (c : Call) (e : numberOf p c ≡ 0) where
     done-state : answerTo s c .state ≡ afterState s c
@@ -91,7 +91,7 @@ module _ (u : Bytes) (s : StripState) (p : PlainMessage) (g : Rel u s p) where
 
     done-plain : afterCall p c ≡ accepted p c
     unfolding afterCall
-    done-plain = ap (λ (n : ℕ). pick (eqb n 0) (accepted p c) p) e
+    done-plain = ap (λ (n : ℕ). cond (eqb n 0) (accepted p c) p) e
 
     done-output : outputOf s c ≡ putBytes (lentTo c) 0 (bytesBy s c)
     done-output = output-is s c ∙ ap (λ (n : ℕ). unless n (lentTo c) (putBytes (lentTo c) 0 (bytesBy s c))) (same-number c ∙ e)
@@ -197,7 +197,7 @@ module _ (u : Bytes) where
 
   -- what is written up to p, of a message that ends at p or goes on
   Upto : PlainMessage → Bytes
-  Upto p = pick (p .finished) (E (p .message) ++ T (p .message)) (E (p .message))
+  Upto p = cond (p .finished) (E (p .message) ++ T (p .message)) (E (p .message))
 
   -- what an accepted call puts stands at the front of its output
   front : (s : StripState) (p : PlainMessage) (g : Rel u s p) (c : Call) → numberOf p c ≡ 0 → length (bytesBy s c) ≡ countOf c
@@ -250,7 +250,7 @@ module _ (u : Bytes) where
 
   going : (cs : List Call) (s : StripState) (p : PlainMessage) → Rel u s p → p .finished ≡ false → Going cs s p
   unfolding Going Upto
-  going [] s p g h = append-nil (E (p .message)) ∙ ap (λ (f : Bool). pick f (E (p .message) ++ T (p .message)) (E (p .message))) (sym h)
+  going [] s p g h = append-nil (E (p .message)) ∙ ap (λ (f : Bool). cond f (E (p .message) ++ T (p .message)) (E (p .message))) (sym h)
   going (c ∷ cs) s p g h = by c (numberOf p c) refl (going cs)
     where
       by : (c : Call) (n : ℕ) → numberOf p c ≡ n → ((s : StripState) (p : PlainMessage) → Rel u s p → p .finished ≡ false → Going cs s p) → Going (c ∷ cs) s p
@@ -264,7 +264,7 @@ module _ (l : StripList) where
   u = ready 128 (keyed (l .key) (l .nonce)) (l .secret) (l .associated)
 
   abbrev sealedSecret : Bytes
-  sealedSecret = keyed (l .key) (l .nonce) ⊕ l .secret
+  sealedSecret = keyed (l .key) (l .nonce) ⊕₈ l .secret
 
   pub start-is : (n : ℕ) → startNumberOf l ≡ n → startTo l ≡ answered n notStarted (started (l .key) (l .nonce) (l .secret) (l .associated) (l .out)) 16
   unfolding startAnswer
@@ -277,12 +277,12 @@ module _ (l : StripList) where
       by : (n : ℕ) → startNumberOf l ≡ n → Rel u (startTo l .state) (plainStart l)
       by zero e =
           along u (started (l .key) (l .nonce) (l .secret) (l .associated) (l .out)) _ (record { message = []; finished = false }) _
-          (ap (λ (a : StripAnswer). a .state) (start-is 0 e)) (ap (λ (n : ℕ). record { message = []; finished = pick (eqb n 0) false true }) e)
+          (ap (λ (a : StripAnswer). a .state) (start-is 0 e)) (ap (λ (n : ℕ). record { message = []; finished = cond (eqb n 0) false true }) e)
           (record { finished = refl; count = refl; holds = λ (z : false ≡ false). refl })
       by (suc n) e =
           along u notStarted _ (record { message = []; finished = true }) _
           (ap (λ (a : StripAnswer). a .state) (start-is (suc n) e) ∙ turned n _ notStarted)
-          (ap (λ (n : ℕ). record { message = []; finished = pick (eqb n 0) false true }) e ∙ ap (λ (f : Bool). record { message = []; finished = f }) (turned n false true))
+          (ap (λ (n : ℕ). record { message = []; finished = cond (eqb n 0) false true }) e ∙ ap (λ (f : Bool). record { message = []; finished = f }) (turned n false true))
           (record { finished = refl; count = refl; holds = λ (z : true ≡ false). absurd (let y : _≡_ {A = ℕ} 0 1 = cc in omega arith) })
 
   list-agrees : runTold l ≡ plainTold l
@@ -318,11 +318,11 @@ module _ (l : StripList) where
         ∙ take-put (l .out) 0 sealedSecret 16 (let h : length sealedSecret ≡ 16 = length-secret in omega arith) (omega arith)
 
     -- the sealed message up to p
-    upto-is : (p : PlainMessage) → sealedSecret ++ Upto u p ≡ pick (p .finished) (sealing l (p .message)) (take (16 + length (p .message)) (sealing l (p .message)))
+    upto-is : (p : PlainMessage) → sealedSecret ++ Upto u p ≡ cond (p .finished) (sealing l (p .message)) (take (16 + length (p .message)) (sealing l (p .message)))
     unfolding Upto E
     upto-is p = by (p .finished)
       where
-        by : (f : Bool) → sealedSecret ++ pick f (E u (p .message) ++ T u (p .message)) (E u (p .message)) ≡ pick f (sealing l (p .message)) (take (16 + length (p .message)) (sealing l (p .message)))
+        by : (f : Bool) → sealedSecret ++ cond f (E u (p .message) ++ T u (p .message)) (E u (p .message)) ≡ cond f (sealing l (p .message)) (take (16 + length (p .message)) (sealing l (p .message)))
         by true = sym (sealing-is (p .message))
         by false =
             sym
@@ -330,10 +330,10 @@ module _ (l : StripList) where
             ∙ take-at (sealedSecret ++ E u (p .message)) (T u (p .message)) (16 + length (p .message))
             (length-append sealedSecret (E u (p .message)) ∙ ap₂ (λ (i j : ℕ). i + j) length-secret (length-fed 128 (held u 0) (p .message))))
 
-    list-bytes : runWritten l ≡ pick (plainOf l .finished) (sealing l (plainOf l .message)) (take (16 + length (plainOf l .message)) (sealing l (plainOf l .message)))
+    list-bytes : runWritten l ≡ cond (plainOf l .finished) (sealing l (plainOf l .message)) (take (16 + length (plainOf l .message)) (sealing l (plainOf l .message)))
     unfolding runWritten plainOf Going E
     list-bytes =
-        let f : plainStart l .finished ≡ false = ap (λ (n : ℕ). pick (eqb n 0) false true) e in
+        let f : plainStart l .finished ≡ false = ap (λ (n : ℕ). cond (eqb n 0) false true) e in
         ap₂ (λ (a b : Bytes). a ++ b) start-front (going u (l .calls) (startTo l .state) (plainStart l) rel-start f)
         ∙ upto-is (afterCalls (plainStart l) (l .calls))
 
@@ -382,7 +382,7 @@ module _ (l : StripList) where
           ap₂ (λ (b : Bytes) (bs : List Bytes). unless (startNumberOf l) (l .out) (putBytes (l .out) 0 b) ∷ bs) (first-part e)
           (outputs-going e (l .calls) (startTo l .state) (plainStart l) rel-start)
       by (suc n) e =
-          let f : plainStart l .finished ≡ true = ap (λ (n : ℕ). pick (eqb n 0) false true) e ∙ turned n false true in
+          let f : plainStart l .finished ≡ true = ap (λ (n : ℕ). cond (eqb n 0) false true) e ∙ turned n false true in
           ap₂ (λ (b : Bytes) (bs : List Bytes). b ∷ bs)
           (ap (λ (i : ℕ). unless i (l .out) (putBytes (l .out) 0 sealedSecret)) e ∙ turned n (putBytes (l .out) 0 sealedSecret) (l .out)
           ∙ sym (ap (λ (i : ℕ). unless i (l .out) (putBytes (l .out) 0 (take 16 (sealing l [])))) e ∙ turned n (putBytes (l .out) 0 (take 16 (sealing l []))) (l .out)))
@@ -443,7 +443,7 @@ list-cut key nonce secret associated out end xs hk hn hs ha ho hm he = (subst Al
     start-done = start-accepted (sizes Icepole128) (length key) (length nonce) (length secret) (length associated) (length out) (record { key = hk; nonce = hn; secret = hs; associated = ha; out = ho })
 
     begun : startNumberOf l ≡ 0 → plainStart l ≡ record { message = []; finished = false }
-    begun e = ap (λ (n : ℕ). record { message = []; finished = pick (eqb n 0) false true }) e
+    begun e = ap (λ (n : ℕ). record { message = []; finished = cond (eqb n 0) false true }) e
 
     told : startNumberOf l ≡ 0 → AllDone (plainTold l)
     told e = (e, subst (λ (p : PlainMessage). AllDone (plainFrom p (cut xs end))) (sym (begun e)) (cut-from end he xs [] (omega arith) .0))
@@ -452,8 +452,8 @@ list-cut key nonce secret associated out end xs hk hn hs ha ho hm he = (subst Al
     after e = ap (λ (p : PlainMessage). afterCalls p (cut xs end)) (begun e) ∙ cut-from end he xs [] (omega arith) .1
 
     whole : startNumberOf l ≡ 0
-        → pick (plainOf l .finished) (sealing l (plainOf l .message)) (take (16 + length (plainOf l .message)) (sealing l (plainOf l .message))) ≡ sealing l (joined xs)
-    whole e = ap (λ (p : PlainMessage). pick (p .finished) (sealing l (p .message)) (take (16 + length (p .message)) (sealing l (p .message)))) (after e)
+        → cond (plainOf l .finished) (sealing l (plainOf l .message)) (take (16 + length (plainOf l .message)) (sealing l (plainOf l .message))) ≡ sealing l (joined xs)
+    whole e = ap (λ (p : PlainMessage). cond (p .finished) (sealing l (p .message)) (take (16 + length (p .message)) (sealing l (p .message)))) (after e)
 
 pub strip-lists : StripLists
 strip-lists = record { agrees = list-agrees; outputs = list-outputs; bytes = list-bytes; any-cut = list-cut }

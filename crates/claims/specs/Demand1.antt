@@ -22,8 +22,8 @@ use Rattle.icepole.specs.Answers.{maxLength, tagAgrees, sealNumber, sealRefusal
 use Rattle.strips.specs.declared.StripState.{StripState}
 use Rattle.strips.specs.declared.StripAnswer.{StripAnswer}
 use Rattle.strips.specs.Answers.{startNumber, notStarted, startAnswer, startOutput, stripAnswer, stripOutput, endAnswer, endOutput}
-use Rattle.icepole_c.specs.Calls.{callRefusal, callOutput, callInfo}
-use Rattle.icepole_c.specs.Strips.{stripStateLength, stripStateBytes, stripStateIn, startCallNumber, startCallOutput, startCallState, stripCallNumber, stripCallOutput, stripCallState, endCallNumber, endCallOutput, endCallState}
+use Rattle.icepole_c.specs.Calls.{openCallRefusal, openCallOutput, openCallInfo}
+use Rattle.icepole_c.specs.Strips.{stripStateLength, stripStateBytes, stripStateIn, startCallRefusal, startCallOutput, startCallState, stripCallRefusal, stripCallOutput, stripCallState, endCallRefusal, endCallOutput, endCallState}
 use Rattle.burst.specs.declared.Recorder.{Recorder}
 use Rattle.burst.specs.Editions.{written}
 use Rattle.burst.specs.Layout.{Identity, maxPicture}
@@ -32,10 +32,10 @@ use Rattle.burst.specs.Recorder.{editionOf, isSound, noRecorder, beginAnswer, b
 use Rattle.trace.specs.Plain.{Call}
 use Rattle.trace.specs.Trace.{nextRecorder, nextBuffer, answerTo}
 use Rattle.reader.specs.Front.{keptIn, entryAt, positionOf, frontRules}
-use Rattle.reader.specs.Reader.{closingPart, recordPart, agrees, notChecked, notFetched, checkMark, checkAnswer, recordNumber, recordOffset, recordBytesIn, fetchAnswer, fetchOutput}
+use Rattle.reader.specs.Reader.{closingPart, recordPart, agrees, notChecked, notFetched, checkMark, checkAnswer, recordRefusal, recordOffset, recordBytesIn, fetchAnswer, fetchOutput}
 use Rattle.listing.specs.declared.Listed.{Listed}
-use Rattle.listing.specs.Listing.{listing, textRoom, listNumber, listAnswer, listOutput}
-use Rattle.burst_c.specs.Calls.{checkInfoLength, fetchInfoLength, checkCallNumber, checkCallInfo, fetchCallNumber, fetchCallOutput, fetchCallInfo}
+use Rattle.listing.specs.Listing.{listing, textRoom, listRefusal, listAnswer, listOutput}
+use Rattle.burst_c.specs.Calls.{checkInfoLength, fetchInfoLength, checkCallRefusal, checkCallInfo, fetchCallRefusal, fetchCallOutput, fetchCallInfo}
 
 -- ---- orders
 -- a number, and the condition on which it is given
@@ -121,12 +121,12 @@ module _ (v : Variant) (key nonce ad c : Bytes) where
     -- in C, with 5 for the info too
     module _ (info : Bytes) where
       abbrev openingC : ℕ
-      openingC = callRefusal v key nonce ad c out info
+      openingC = openCallRefusal v key nonce ad c out info
 
       pub record OpenCall : Type 0 where
         pub order :
             FirstOf openingC (orderOfOpen v (length key) (length nonce) (length ad) (length c) ((length info < 8 + sizes v .secret) ⊎ NoRoomToOpen v c out) TagDiffers)
-        pub refused : openingC ≢ 0 → (callOutput v key nonce ad c out info ≡ out) × (callInfo v key nonce ad c out info ≡ info)
+        pub refused : openingC ≢ 0 → (openCallOutput v key nonce ad c out info ≡ out) × (openCallInfo v key nonce ad c out info ≡ info)
 
 -- ---- strips. Start: 1, 2, 3, 4, 5. By the lengths of key, nonce, secret number, associated data and output
 abbrev pub orderOfStart : (k n s a o : ℕ) → List Refusal
@@ -193,7 +193,7 @@ NoState state = length state < stripStateLength
 
 module _ (key nonce secret ad out state : Bytes) where
   abbrev startingC : ℕ
-  startingC = startCallNumber key nonce secret ad out state
+  startingC = startCallRefusal key nonce secret ad out state
 
   pub record StartCall : Type 0 where
     pub order : FirstOf startingC (orderOfStart (length key) (length nonce) (length secret) (length ad) (length out) ++ ((5 on NoState state) ∷ []))
@@ -205,13 +205,13 @@ module _ (key nonce secret ad out state : Bytes) where
 
 module _ (state m out : Bytes) where
   pub record StripCall : Type 0 where
-    pub order : FirstOf (stripCallNumber state m out) ((5 on NoState state) ∷ orderOfStrip (stripStateIn state) m out)
-    pub refused : stripCallNumber state m out ≢ 0 → (stripCallState state m out ≡ state) × (stripCallOutput state m out ≡ out)
+    pub order : FirstOf (stripCallRefusal state m out) ((5 on NoState state) ∷ orderOfStrip (stripStateIn state) m out)
+    pub refused : stripCallRefusal state m out ≢ 0 → (stripCallState state m out ≡ state) × (stripCallOutput state m out ≡ out)
 
 module _ (state out : Bytes) where
   pub record EndCall : Type 0 where
-    pub order : FirstOf (endCallNumber state out) ((5 on NoState state) ∷ orderOfEnd (stripStateIn state) out)
-    pub refused : endCallNumber state out ≢ 0 → (endCallState state out ≡ state) × (endCallOutput state out ≡ out)
+    pub order : FirstOf (endCallRefusal state out) ((5 on NoState state) ∷ orderOfEnd (stripStateIn state) out)
+    pub refused : endCallRefusal state out ≢ 0 → (endCallState state out ≡ state) × (endCallOutput state out ≡ out)
 
 -- ---- the recorder. Begin: 1, 3, 11
 module _ (key : Bytes) (i : Identity) (buffer : Bytes) where
@@ -310,9 +310,9 @@ module _ (key f : Bytes) (place : ℕ) where
   orderAtPlace = orderOfCheck key f ++ ((13 on (keptIn f ≤ place)) ∷ [])
 
   pub record Record : Type 0 where
-    pub order : FirstOf (recordNumber key f place) orderAtPlace
-    pub refused : recordNumber key f place ≢ 0 → (recordBytesIn key f place ≡ []) × (recordOffset key f place ≡ 0)
-    pub unmarked : recordNumber key f place ≢ 7 → checkMark key f ≡ 0
+    pub order : FirstOf (recordRefusal key f place) orderAtPlace
+    pub refused : recordRefusal key f place ≢ 0 → (recordBytesIn key f place ≡ []) × (recordOffset key f place ≡ 0)
+    pub unmarked : recordRefusal key f place ≢ 7 → checkMark key f ≡ 0
 
 -- fetch: check's, 13, 5
 module _ (key f : Bytes) (place : ℕ) (out : Bytes) where
@@ -331,13 +331,13 @@ module _ (key f : Bytes) (place : ℕ) (out : Bytes) where
 -- in C, with 5 for the info too
 module _ (key f info : Bytes) where
   pub record CheckCall : Type 0 where
-    pub order : FirstOf (checkCallNumber key f info) (orderOfCheck key f ++ ((5 on (length info < checkInfoLength)) ∷ []))
-    pub refused : checkCallNumber key f info ≢ 0 → checkCallInfo key f info ≡ info
-    pub unmarked : checkCallNumber key f info ≢ 7 → checkMark key f ≡ 0
+    pub order : FirstOf (checkCallRefusal key f info) (orderOfCheck key f ++ ((5 on (length info < checkInfoLength)) ∷ []))
+    pub refused : checkCallRefusal key f info ≢ 0 → checkCallInfo key f info ≡ info
+    pub unmarked : checkCallRefusal key f info ≢ 7 → checkMark key f ≡ 0
 
 module _ (key f : Bytes) (place : ℕ) (out info : Bytes) where
   abbrev fetchingC : ℕ
-  fetchingC = fetchCallNumber key f place out info
+  fetchingC = fetchCallRefusal key f place out info
 
   pub record FetchCall : Type 0 where
     pub order : FirstOf fetchingC (orderAtPlace key f place ++ ((5 on ((length info < fetchInfoLength) ⊎ NoRoomToFetch key f place out)) ∷ []))
@@ -355,7 +355,7 @@ module _ (f out : Bytes) where
     -- room that is enough for every text
     pub room : textRoom ≤ length out → printing .refusal ≡ 0
     -- what the C call returns
-    pub returned : listNumber f out ≡ printing .refusal
+    pub returned : listRefusal f out ≡ printing .refusal
 
 pub record Demand1 : Type 0 where
   pub seal-number : SealNumber

@@ -2,7 +2,7 @@
 -- sealing gives under the same key, nonce and associated data." It is about what the calls answer and leave: the contracts of `icepole::seal`, `verify` and
 -- `open_message` say that their answers are `sealAnswer` and `openAnswer`, and that the output is then `sealOutput` and `openOutput`, where ad is the joining
 -- of the two parts. `fits` says whether the answer fits into what is lent for it: `fitsOutput` for `open_message`, `fitsBoth` for the C opening, true for `verify`.
--- The C opening returns the number of that answer, and puts its length and secret number into the further slice (`callInfo`).
+-- The C opening returns the number of that answer, and puts its length and secret number into the further slice (`openCallInfo`).
 -- Assumes nothing.
 use mathlib.Core.Path.{_≡_}
 use mathlib.Core.Bool.{Bool, true}
@@ -16,7 +16,7 @@ use Rattle.icepole.specs.declared.Opened.{Opened}
 use Rattle.icepole.specs.Variants.{sizes}
 use Rattle.icepole.specs.Sealing.{sealed}
 use Rattle.icepole.specs.Answers.{maxLength, sealAnswer, sealOutput, openedAnswer, openRefusal, openAnswer, openOutput, fitsOutput}
-use Rattle.icepole_c.specs.Calls.{callRefusal, callOutput, callInfo}
+use Rattle.icepole_c.specs.Calls.{openCallRefusal, openCallOutput, openCallInfo}
 
 -- key, nonce and secret number have the variant's lengths, and the data is within the limits
 pub record Within (v : Variant) (key nonce secret ad m : Bytes) : Type 0 where
@@ -62,9 +62,9 @@ pub record Demand2 : Type 0 where
       → fitsOutput v (sealed (sizes v) key nonce secret ad m) out ≡ true
   -- in C, with room in the output and in the further slice: the message, and its length (8 bytes) with the secret number, at their fronts
   pub opens-in-c : (v : Variant) (key nonce secret ad m out info : Bytes) → Within v key nonce secret ad m → length m ≤ length out → 8 + sizes v .secret ≤ length info
-      → (callRefusal v key nonce ad (sealed (sizes v) key nonce secret ad m) out info ≡ 0)
-      × (callOutput v key nonce ad (sealed (sizes v) key nonce secret ad m) out info ≡ putBytes out 0 m)
-      × (callInfo v key nonce ad (sealed (sizes v) key nonce secret ad m) out info ≡ putBytes info 0 (le 8 (length m) ++ secret))
+      → (openCallRefusal v key nonce ad (sealed (sizes v) key nonce secret ad m) out info ≡ 0)
+      × (openCallOutput v key nonce ad (sealed (sizes v) key nonce secret ad m) out info ≡ putBytes out 0 m)
+      × (openCallInfo v key nonce ad (sealed (sizes v) key nonce secret ad m) out info ≡ putBytes info 0 (le 8 (length m) ++ secret))
   -- opening is done only on what sealing gives
   pub only : (v : Variant) (key nonce ad c : Bytes) (fits : Bool) → openRefusal v key nonce ad c fits ≡ 0 → Genuine v key nonce ad c fits
   -- otherwise it gives nothing: the answer is the number with zeros, and the output stays

@@ -9,7 +9,7 @@
 --   reads       and of every accepted file, what was read back makes that file again, as one of the file's own edition
 --   withholds   otherwise it releases no picture byte
 -- A list is read as one of an edition, a row of `editions`; the row that the recorder makes of it is `editionFor`. The cipher is the one that `Parts` of the burst file chooses, ICEPOLE-128. Assumes nothing.
-use mathlib.Core.Bool.{true, _&&_}
+use mathlib.Core.Bool.{true, cond, _&&_}
 use mathlib.Core.List.{List, [], _∷_, _++_}
 use mathlib.Core.Logic.{_↔_, _⊎_}
 use mathlib.Core.Option.{Option, some, none}
@@ -18,19 +18,18 @@ use Prim.Native.Nat.{ℕ, zero, suc, _+_, _^_, _≤_, _<_}
 use lib.Dec.{eqb}
 use lib.ListN.{length, take, replicate}
 use Rattle.bytes_le.specs.Bytes.{Bytes, AllBytes, putBytes}
-use Rattle.icepole.specs.Sealing.{pick}
 use Rattle.burst.specs.declared.Edition.{Edition}
 use Rattle.burst.specs.declared.Name.{Name}
 use Rattle.burst.specs.Editions.{editions, _among_}
 use Rattle.burst.specs.Parts.{Fits}
 use Rattle.burst.specs.Layout.{maxPicture, recordBytes}
 use Rattle.burst.specs.Numbers.{usedAfter}
-use Rattle.trace.specs.Plain.{Shot, kept, gap, pictures, gaps, Plain, fileOf, Call, keepShot, dropShot, closeBurst, CallList, Answer, plainOf, plainAnswers, totalOf}
+use Rattle.trace.specs.Plain.{Firing, kept, gap, pictures, gaps, Plain, fileOf, Call, keepShot, dropShot, closeBurst, CallList, Answer, plainOf, plainAnswers, totalOf}
 use Rattle.trace.specs.Trace.{runAnswers, runBuffer}
 use Rattle.trace.specs.Agreement.{Reached, editionFor, Agreement}
 use Rattle.reader.specs.declared.Checked.{Checked}
 use Rattle.reader.specs.Front.{editionIn}
-use Rattle.reader.specs.Reader.{notChecked, notFetched, checkAnswer, fetchAnswer, fetchOutput, recordNumber, recordOffset, recordBytesIn}
+use Rattle.reader.specs.Reader.{notChecked, notFetched, checkAnswer, fetchAnswer, fetchOutput, recordRefusal, recordOffset, recordBytesIn}
 
 -- ---- an accepted close: one of the list's closes was answered 0
 abbrev pub CloseAnswered : List Call → List Answer → Type 0
@@ -118,7 +117,7 @@ pub record Picture : Type 0 where
   pub offset : ℕ
 
 -- the picture of a place, counted from 0, of shots the first of which is shot number n; the first record stands at `offset`
-abbrev pub pictureAt : (n offset : ℕ) → List Shot → ℕ → Option Picture
+abbrev pub pictureAt : (n offset : ℕ) → List Firing → ℕ → Option Picture
 pictureAt n offset [] place = none
 pictureAt n offset (gap ∷ xs) place = pictureAt (n + 1) offset xs place
 pictureAt n offset (kept s p ∷ xs) zero = some (record { shot = n; stamp = s; picture = p; offset = offset })
@@ -130,14 +129,14 @@ whole = replicate maxPicture 0
 
 -- the list of shots from the answers of check and fetch alone: shot number n is what the fetch at the next place gives if that is shot n, else a gap
 module _ (key f : Bytes) where
-  abbrev pub readFrom : (left n place : ℕ) → List Shot
+  abbrev pub readFrom : (left n place : ℕ) → List Firing
   readFrom zero n place = []
   readFrom (suc left) n place =
-      pick (eqb (fetchAnswer key f place whole .refusal) 0 && eqb (fetchAnswer key f place whole .shot .0) n)
+      cond (eqb (fetchAnswer key f place whole .refusal) 0 && eqb (fetchAnswer key f place whole .shot .0) n)
       (kept (fetchAnswer key f place whole .stamp) (take (fetchAnswer key f place whole .length) (fetchOutput key f place whole)) ∷ readFrom left (n + 1) (place + 1))
       (gap ∷ readFrom left (n + 1) place)
 
-  unfoldable pub readShots : List Shot
+  unfoldable pub readShots : List Firing
   readShots = readFrom (checkAnswer key f .taken .0) 1 0
 
 pub record GivenBack (e : Edition) (key f : Bytes) (p : Plain) : Type 0 where
@@ -160,7 +159,7 @@ pub record GivenBack (e : Edition) (key f : Bytes) (p : Plain) : Type 0 where
       × (fetchOutput key f place out ≡ putBytes out 0 (w .picture))
   -- the sealed record, and where it stands
   pub sealed : (place : ℕ) (w : Picture) → pictureAt 1 (e .header) (p .shots) place ≡ some w
-      → (recordNumber key f place ≡ 0)
+      → (recordRefusal key f place ≡ 0)
       × (recordOffset key f place ≡ w .offset)
       × (recordBytesIn key f place ≡ recordBytes e key (p .identity .name) (w .shot) (w .offset) (w .stamp) (w .picture))
   pub shots : readShots key f ≡ p .shots
@@ -203,9 +202,9 @@ pub record Withheld (key f : Bytes) (place : ℕ) (out : Bytes) : Type 0 where
   pub check : (checkAnswer key f .refusal ≡ 0 → ⊥)
       → (checkAnswer key f ≡ notChecked (checkAnswer key f .refusal) (checkAnswer key f .mark))
       × (fetchAnswer key f place out ≡ notFetched (checkAnswer key f .refusal) (checkAnswer key f .mark))
-      × (recordNumber key f place ≡ checkAnswer key f .refusal)
+      × (recordRefusal key f place ≡ checkAnswer key f .refusal)
   -- a refused record is the empty part
-  pub part : (recordNumber key f place ≡ 0 → ⊥) → (recordBytesIn key f place ≡ []) × (recordOffset key f place ≡ 0)
+  pub part : (recordRefusal key f place ≡ 0 → ⊥) → (recordBytesIn key f place ≡ []) × (recordOffset key f place ≡ 0)
 
 abbrev pub Withholds : Type 0
 Withholds = (key f : Bytes) (place : ℕ) (out : Bytes) → Withheld key f place out

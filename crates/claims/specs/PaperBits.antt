@@ -6,11 +6,11 @@ use mathlib.Core.Bool.{Bool, true, false}
 use Prim.Native.Nat.{ℕ, _+_, _*_, _/_, _%_, _≤_, _<_}
 use lib.Dec.{eqb}
 use lib.ListN.{length, getD}
-use Rattle.bits.specs.Bits.{bit, _⊕_ as _⊻_}
+use Rattle.bits.specs.Bits.{bit, _⊕_}
 use Rattle.bytes_le.specs.Bytes.{Bytes, AllBytes}
 use Rattle.permutation.specs.State.{at, state}
 use Rattle.state_bytes.specs.StateBytes.{bytesOf, stateOf}
-use Rattle.icepole.specs.Sealing.{_⊕_, xorWith, pad}
+use Rattle.icepole.specs.Sealing.{_⊕₈_, xorWith, pad}
 
 -- bit i of a run of bytes; past its end there are zeros
 abbrev pub bitOf : Bytes → ℕ → Bool
@@ -26,6 +26,6 @@ pub record PaperBits : Type 0 where
   pub pad-frame : (b : Bytes) (f : ℕ) → f < 2 → bitOf (pad b f) (8 * length b) ≡ eqb f 1
   pub pad-one : (b : Bytes) (f : ℕ) → f < 2 → bitOf (pad b f) (8 * length b + 1) ≡ true
   pub pad-zeros : (b : Bytes) (f : ℕ) → f < 2 → (i : ℕ) → bitOf (pad b f) (8 * length b + (2 + i)) ≡ false
-  pub xor-bits : (v b : Bytes) (i : ℕ) → i < 8 * length v → bitOf (xorWith v b) i ≡ bitOf v i ⊻ bitOf b i
+  pub xor-bits : (v b : Bytes) (i : ℕ) → i < 8 * length v → bitOf (xorWith v b) i ≡ bitOf v i ⊕ bitOf b i
   -- the same of a ciphertext
-  pub cipher-bits : (v b : Bytes) (i : ℕ) → length b ≤ length v → i < 8 * length b → bitOf (v ⊕ b) i ≡ bitOf v i ⊻ bitOf b i
+  pub cipher-bits : (v b : Bytes) (i : ℕ) → length b ≤ length v → i < 8 * length b → bitOf (v ⊕₈ b) i ≡ bitOf v i ⊕ bitOf b i

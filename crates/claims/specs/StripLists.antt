@@ -11,7 +11,7 @@
 --   short     a slice of fewer bytes: start returns its own number, or else 5, every other call 5, and nothing is written
 -- `StatePasses` is one step of it: the state that a call leaves in the slice is the one that the next call reads.
 -- Assumes nothing.
-use mathlib.Core.Bool.{Bool, true, false}
+use mathlib.Core.Bool.{Bool, true, false, cond}
 use mathlib.Core.List.{List, [], _∷_, _++_, map}
 use mathlib.Core.Path.{_≡_}
 use Prim.Native.Nat.{ℕ, _+_, _^_, _≤_, _<_}
@@ -20,12 +20,12 @@ use lib.ListN.{length, take, drop}
 use Rattle.bytes_le.specs.Bytes.{Bytes, putBytes}
 use Rattle.icepole.specs.declared.Variant.the-variants.{Icepole128}
 use Rattle.icepole.specs.Variants.{sizes}
-use Rattle.icepole.specs.Sealing.{pick, sealed}
+use Rattle.icepole.specs.Sealing.{sealed}
 use Rattle.icepole.specs.Answers.{maxLength, unless}
 use Rattle.strips.specs.declared.StripState.{StripState}
 use Rattle.strips.specs.declared.StripAnswer.{StripAnswer}
 use Rattle.strips.specs.Answers.{startAnswer, startOutput, stripAnswer, stripOutput, endAnswer, endOutput, startRefusal, stripNumber, endNumber}
-use Rattle.icepole_c.specs.Strips.{stripStateLength, stripStateBytes, stripStateIn, startCallNumber, startCallOutput, startCallState, stripCallNumber, stripCallOutput, stripCallState, endCallNumber, endCallOutput, endCallState}
+use Rattle.icepole_c.specs.Strips.{stripStateLength, stripStateBytes, stripStateIn, startCallRefusal, startCallOutput, startCallState, stripCallRefusal, stripCallOutput, stripCallState, endCallRefusal, endCallOutput, endCallState}
 
 -- ---- the calls
 -- each has the output that is lent to it
@@ -116,11 +116,11 @@ countOf (endOf o) = 16
 
 -- a call turned down changes nothing
 unfoldable pub afterCall : PlainMessage → Call → PlainMessage
-afterCall p c = pick (eqb (numberOf p c) 0) (accepted p c) p
+afterCall p c = cond (eqb (numberOf p c) 0) (accepted p c) p
 
 -- the mark is 0: no call of these is refused with 7
 abbrev pub plainAnswer : ℕ → ℕ → Told
-plainAnswer num count = record { number = num; mark = 0; count = pick (eqb num 0) count 0 }
+plainAnswer num count = record { number = num; mark = 0; count = cond (eqb num 0) count 0 }
 
 abbrev pub plainFrom : PlainMessage → List Call → List Told
 plainFrom p [] = []
@@ -150,7 +150,7 @@ module _ (l : StripList) where
 
   -- a start turned down leaves it finished
   abbrev pub plainStart : PlainMessage
-  plainStart = record { message = []; finished = pick (eqb startNumberOf 0) false true }
+  plainStart = record { message = []; finished = cond (eqb startNumberOf 0) false true }
 
   unfoldable pub plainTold : List Told
   plainTold = plainAnswer startNumberOf 16 ∷ plainFrom plainStart (l .calls)
@@ -189,7 +189,7 @@ pub record StripLists : Type 0 where
   pub agrees : (l : StripList) → runTold l ≡ plainTold l
   pub outputs : (l : StripList) → runOutputs l ≡ plainOutputs l
   pub bytes : (l : StripList) → startNumberOf l ≡ 0
-      → runWritten l ≡ pick (plainOf l .finished) (sealing l (plainOf l .message)) (take (16 + length (plainOf l .message)) (sealing l (plainOf l .message)))
+      → runWritten l ≡ cond (plainOf l .finished) (sealing l (plainOf l .message)) (take (16 + length (plainOf l .message)) (sealing l (plainOf l .message)))
   pub any-cut : (key nonce secret associated out end : Bytes) (xs : List Piece)
       → length key ≡ 16 → length nonce ≡ 16 → length secret ≡ 16 → length associated ≤ maxLength → 16 ≤ length out
       → length (joined xs) ≤ maxLength → 16 ≤ length end
@@ -198,8 +198,8 @@ pub record StripLists : Type 0 where
 
 -- ---- the C calls run: what a call returns and leaves is what its contract states. st is the slice that is lent for the state
 unfoldable pub numberC : Bytes → Call → ℕ
-numberC st (stripOf m o) = stripCallNumber st m o
-numberC st (endOf o) = endCallNumber st o
+numberC st (stripOf m o) = stripCallRefusal st m o
+numberC st (endOf o) = endCallRefusal st o
 
 unfoldable pub outputC : Bytes → Call → Bytes
 outputC st (stripOf m o) = stripCallOutput st m o
@@ -228,7 +228,7 @@ module _ (l : StripList) (st : Bytes) where
 
   -- of the whole list, start's first
   unfoldable pub runNumbersC : List ℕ
-  runNumbersC = startCallNumber (l .key) (l .nonce) (l .secret) (l .associated) (l .out) st ∷ numbersFromC startSliceC (l .calls)
+  runNumbersC = startCallRefusal (l .key) (l .nonce) (l .secret) (l .associated) (l .out) st ∷ numbersFromC startSliceC (l .calls)
 
   unfoldable pub runOutputsC : List Bytes
   runOutputsC = startCallOutput (l .key) (l .nonce) (l .secret) (l .associated) (l .out) st ∷ outputsFromC startSliceC (l .calls)
@@ -247,6 +247,6 @@ pub record StripCallLists : Type 0 where
   pub state : (l : StripList) (st : Bytes) → stripStateLength ≤ length st
       → runSliceC l st ≡ stripStateBytes (runState l) ++ drop stripStateLength st
   pub short : (l : StripList) (st : Bytes) → length st < stripStateLength
-      → (runNumbersC l st ≡ pick (eqb (startNumberOf l) 0) 5 (startNumberOf l) ∷ map (λ (c : Call). 5) (l .calls))
+      → (runNumbersC l st ≡ cond (eqb (startNumberOf l) 0) 5 (startNumberOf l) ∷ map (λ (c : Call). 5) (l .calls))
       × (runOutputsC l st ≡ l .out ∷ map lentTo (l .calls))
       × (runSliceC l st ≡ st)

@@ -1,7 +1,7 @@
 -- The answers of the calls, and what they leave in the output, from the number that the code found.
 -- Assumes nothing.
 use mathlib.Core.Path.{_≡_, refl, sym, ap, ap₂, _∙_}
-use mathlib.Core.Bool.{Bool, true, false, not}
+use mathlib.Core.Bool.{Bool, true, false, cond, not}
 use mathlib.Core.List.{[], _++_}
 use Prim.Native.Nat.{ℕ, zero, suc, _+_, _-_}
 use native.Mathlib.Omega.{arith}
@@ -10,7 +10,7 @@ use lib.ListN.{length, replicate, length-append}
 use Rattle.bytes_le.specs.Bytes.{Bytes, putBytes}
 use Rattle.bytes_le.proofs.Loads.{fits}
 use Rattle.icepole.specs.Answers.{openAnswer, openNumber, openOutput, openRefusal, openedAnswer, refusal, sealAnswer, sealNumber, sealOutput, sealRefusal, sealedAnswer, tagAgrees}
-use Rattle.icepole.specs.Sealing.{messageOf, pick, sealed, secretOf}
+use Rattle.icepole.specs.Sealing.{messageOf, sealed, secretOf}
 use Rattle.icepole.specs.Variants.{sizes}
 use Rattle.icepole.specs.declared.Opened.{Opened}
 use Rattle.icepole.specs.declared.Sizes.{Sizes}
@@ -57,12 +57,12 @@ module _ (v : Variant) (q : Sizes) (eq : q ≡ sizes v) (k n f g c : Bytes) (fit
   stays num₀ h = at-tag agrees ∙ open-stands q (length k) (length n) (length f + length g) (length c) fits agrees num₀ (sym e ∙ h)
 
   -- the tag decides
-  by-tag : num ≡ 0 → (t : Bool) → agrees ≡ t → openRefusal v k n (f ++ g) c fits ≡ pick (not t) 7 0
+  by-tag : num ≡ 0 → (t : Bool) → agrees ≡ t → openRefusal v k n (f ++ g) c fits ≡ cond (not t) 7 0
   unfolding openRefusal
   by-tag h t et =
       at-tag agrees
       ∙ open-decides q (length k) (length n) (length f + length g) (length c) fits agrees (sym e ∙ h)
-      ∙ ap (λ (t : Bool). pick (not t) 7 0) et
+      ∙ ap (λ (t : Bool). cond (not t) 7 0) et
 
   refused-by : (num₀ : ℕ) → openRefusal v k n (f ++ g) c fits ≡ suc num₀ → (r : Opened) → r ≡ openedAnswer (suc num₀) 0 []
       → (r ≡ openAnswer v k n (f ++ g) c fits) × ((o : Bytes) → o ≡ openOutput v k n (f ++ g) c fits o)

@@ -11,7 +11,7 @@ use lib.Seq.{length-take-le, take-at, drop-at}
 use Rattle.bytes_le.specs.Bytes.{Bytes}
 use Rattle.bits.proofs.Cases.{le-or-lt}
 use Rattle.state_bytes.proofs.Lengths.{length-permuted}
-use Rattle.icepole.specs.Sealing.{_⊕_, absorb, absorbAssociated, absorbBlocks, absorbMessage, blocksBefore, decrypt, encrypt, pad, xorWith}
+use Rattle.icepole.specs.Sealing.{_⊕₈_, absorb, absorbAssociated, absorbBlocks, absorbMessage, blocksBefore, decrypt, encrypt, pad, xorWith}
 use Rattle.icepole.proofs.Xor.{length-xor, xor-twice}
 
 pub length-absorb : (v b : Bytes) (f : ℕ) → length (absorb v b f) ≡ 160
@@ -81,27 +81,27 @@ module _ (r : ℕ) (hr : 0 < r) where
   unfolding absorbMessage
   length-message v d = length-all 1 0 d v
 
-  pub encrypt-last : (v d : Bytes) → length d ≤ r → encrypt r v d ≡ v ⊕ d
+  pub encrypt-last : (v d : Bytes) → length d ≤ r → encrypt r v d ≡ v ⊕₈ d
   unfolding encrypt
   encrypt-last v d h = rw (blocks-before-last d h)
 
   pub encrypt-more : (v d : Bytes) → r < length d
-      → encrypt r v d ≡ (v ⊕ take r d) ++ encrypt r (absorb v (take r d) 1) (drop r d)
+      → encrypt r v d ≡ (v ⊕₈ take r d) ++ encrypt r (absorb v (take r d) 1) (drop r d)
   unfolding encrypt
   encrypt-more v d h = rw (blocks-before-more d h)
 
-  pub decrypt-last : (v d : Bytes) → length d ≤ r → decrypt r v d ≡ v ⊕ d
+  pub decrypt-last : (v d : Bytes) → length d ≤ r → decrypt r v d ≡ v ⊕₈ d
   unfolding decrypt
   decrypt-last v d h = rw (blocks-before-last d h)
 
   pub decrypt-more : (v d : Bytes) → r < length d
-      → decrypt r v d ≡ (v ⊕ take r d) ++ decrypt r (absorb v (v ⊕ take r d) 1) (drop r d)
+      → decrypt r v d ≡ (v ⊕₈ take r d) ++ decrypt r (absorb v (v ⊕₈ take r d) 1) (drop r d)
   unfolding decrypt
   decrypt-more v d h = rw (blocks-before-more d h)
 
   -- ---- a block is shorter than the state
   module _ (hs : r < 160) where
-    length-first : (v d : Bytes) → length v ≡ 160 → r < length d → length (v ⊕ take r d) ≡ r
+    length-first : (v d : Bytes) → length v ≡ 160 → r < length d → length (v ⊕₈ take r d) ≡ r
     length-first v d hv h =
         let e : length (take r d) ≡ r = length-take-le r d (omega arith) in
         length-xor v (take r d) (omega arith) ∙ e
@@ -111,9 +111,9 @@ module _ (r : ℕ) (hr : 0 < r) where
         by-blocks (λ (d : Bytes). (v : Bytes) → length v ≡ 160 → length (encrypt r v d) ≡ length d)
         (λ d h v hv. ap length (encrypt-last v d h) ∙ length-xor v d (omega arith))
         (λ d h ih v hv.
-        let e : length (v ⊕ take r d) ≡ r = length-first v d hv h in
+        let e : length (v ⊕₈ take r d) ≡ r = length-first v d hv h in
         ap length (encrypt-more v d h)
-        ∙ length-append (v ⊕ take r d) (encrypt r (absorb v (take r d) 1) (drop r d))
+        ∙ length-append (v ⊕₈ take r d) (encrypt r (absorb v (take r d) 1) (drop r d))
         ∙ ap₂ (λ (a b : ℕ). a + b) e (ih (absorb v (take r d) 1) (length-absorb v (take r d) 1) ∙ length-drop r d)
         ∙ (omega arith))
 
@@ -122,33 +122,33 @@ module _ (r : ℕ) (hr : 0 < r) where
         by-blocks (λ (d : Bytes). (v : Bytes) → length v ≡ 160 → length (decrypt r v d) ≡ length d)
         (λ d h v hv. ap length (decrypt-last v d h) ∙ length-xor v d (omega arith))
         (λ d h ih v hv.
-        let e : length (v ⊕ take r d) ≡ r = length-first v d hv h in
+        let e : length (v ⊕₈ take r d) ≡ r = length-first v d hv h in
         ap length (decrypt-more v d h)
-        ∙ length-append (v ⊕ take r d) (decrypt r (absorb v (v ⊕ take r d) 1) (drop r d))
-        ∙ ap₂ (λ (a b : ℕ). a + b) e (ih (absorb v (v ⊕ take r d) 1) (length-absorb v (v ⊕ take r d) 1) ∙ length-drop r d)
+        ∙ length-append (v ⊕₈ take r d) (decrypt r (absorb v (v ⊕₈ take r d) 1) (drop r d))
+        ∙ ap₂ (λ (a b : ℕ). a + b) e (ih (absorb v (v ⊕₈ take r d) 1) (length-absorb v (v ⊕₈ take r d) 1) ∙ length-drop r d)
         ∙ (omega arith))
 
     -- the first block of a encrypt, and the rest
-    encrypt-take : (v d : Bytes) → length v ≡ 160 → r < length d → take r (encrypt r v d) ≡ v ⊕ take r d
+    encrypt-take : (v d : Bytes) → length v ≡ 160 → r < length d → take r (encrypt r v d) ≡ v ⊕₈ take r d
     encrypt-take v d hv h =
-        ap (take r) (encrypt-more v d h) ∙ take-at (v ⊕ take r d) (encrypt r (absorb v (take r d) 1) (drop r d)) r (length-first v d hv h)
+        ap (take r) (encrypt-more v d h) ∙ take-at (v ⊕₈ take r d) (encrypt r (absorb v (take r d) 1) (drop r d)) r (length-first v d hv h)
 
     encrypt-drop : (v d : Bytes) → length v ≡ 160 → r < length d
         → drop r (encrypt r v d) ≡ encrypt r (absorb v (take r d) 1) (drop r d)
     encrypt-drop v d hv h =
-        ap (drop r) (encrypt-more v d h) ∙ drop-at (v ⊕ take r d) (encrypt r (absorb v (take r d) 1) (drop r d)) r (length-first v d hv h)
+        ap (drop r) (encrypt-more v d h) ∙ drop-at (v ⊕₈ take r d) (encrypt r (absorb v (take r d) 1) (drop r d)) r (length-first v d hv h)
 
-    pub decrypt-take : (v d : Bytes) → length v ≡ 160 → r < length d → take r (decrypt r v d) ≡ v ⊕ take r d
+    pub decrypt-take : (v d : Bytes) → length v ≡ 160 → r < length d → take r (decrypt r v d) ≡ v ⊕₈ take r d
     decrypt-take v d hv h =
-        ap (take r) (decrypt-more v d h) ∙ take-at (v ⊕ take r d) (decrypt r (absorb v (v ⊕ take r d) 1) (drop r d)) r (length-first v d hv h)
+        ap (take r) (decrypt-more v d h) ∙ take-at (v ⊕₈ take r d) (decrypt r (absorb v (v ⊕₈ take r d) 1) (drop r d)) r (length-first v d hv h)
 
     pub decrypt-drop : (v d : Bytes) → length v ≡ 160 → r < length d
-        → drop r (decrypt r v d) ≡ decrypt r (absorb v (v ⊕ take r d) 1) (drop r d)
+        → drop r (decrypt r v d) ≡ decrypt r (absorb v (v ⊕₈ take r d) 1) (drop r d)
     decrypt-drop v d hv h =
-        ap (drop r) (decrypt-more v d h) ∙ drop-at (v ⊕ take r d) (decrypt r (absorb v (v ⊕ take r d) 1) (drop r d)) r (length-first v d hv h)
+        ap (drop r) (decrypt-more v d h) ∙ drop-at (v ⊕₈ take r d) (decrypt r (absorb v (v ⊕₈ take r d) 1) (drop r d)) r (length-first v d hv h)
 
     -- ---- deciphering undoes enciphering, and the other way round
-    first-twice : (v d : Bytes) → length v ≡ 160 → r < length d → v ⊕ (v ⊕ take r d) ≡ take r d
+    first-twice : (v d : Bytes) → length v ≡ 160 → r < length d → v ⊕₈ (v ⊕₈ take r d) ≡ take r d
     first-twice v d hv h =
         let e : length (take r d) ≡ r = length-take-le r d (omega arith) in
         xor-twice v (take r d) (omega arith)
@@ -158,10 +158,10 @@ module _ (r : ℕ) (hr : 0 < r) where
         by-blocks (λ (d : Bytes). (v : Bytes) → length v ≡ 160 → decrypt r v (encrypt r v d) ≡ d)
         (λ d h v hv.
         let l : length (encrypt r v d) ≤ r = rw (length-encrypt d v hv) h in
-        decrypt-last v (encrypt r v d) l ∙ ap (λ (c : Bytes). v ⊕ c) (encrypt-last v d h) ∙ xor-twice v d (omega arith))
+        decrypt-last v (encrypt r v d) l ∙ ap (λ (c : Bytes). v ⊕₈ c) (encrypt-last v d h) ∙ xor-twice v d (omega arith))
         (λ d h ih v hv.
         let l : r < length (encrypt r v d) = rw (length-encrypt d v hv) h in
-        let e : v ⊕ take r (encrypt r v d) ≡ take r d = ap (λ (c : Bytes). v ⊕ c) (encrypt-take v d hv h) ∙ first-twice v d hv h in
+        let e : v ⊕₈ take r (encrypt r v d) ≡ take r d = ap (λ (c : Bytes). v ⊕₈ c) (encrypt-take v d hv h) ∙ first-twice v d hv h in
         decrypt-more v (encrypt r v d) l
         ∙ ap₂ (λ (a b : Bytes). a ++ decrypt r (absorb v a 1) b) e (encrypt-drop v d hv h)
         ∙ ap (λ (b : Bytes). take r d ++ b) (ih (absorb v (take r d) 1) (length-absorb v (take r d) 1))
@@ -172,22 +172,22 @@ module _ (r : ℕ) (hr : 0 < r) where
         by-blocks (λ (d : Bytes). (v : Bytes) → length v ≡ 160 → encrypt r v (decrypt r v d) ≡ d)
         (λ d h v hv.
         let l : length (decrypt r v d) ≤ r = rw (length-decrypt d v hv) h in
-        encrypt-last v (decrypt r v d) l ∙ ap (λ (c : Bytes). v ⊕ c) (decrypt-last v d h) ∙ xor-twice v d (omega arith))
+        encrypt-last v (decrypt r v d) l ∙ ap (λ (c : Bytes). v ⊕₈ c) (decrypt-last v d h) ∙ xor-twice v d (omega arith))
         (λ d h ih v hv.
         let l : r < length (decrypt r v d) = rw (length-decrypt d v hv) h in
-        let t : take r (decrypt r v d) ≡ v ⊕ take r d = decrypt-take v d hv h in
+        let t : take r (decrypt r v d) ≡ v ⊕₈ take r d = decrypt-take v d hv h in
         encrypt-more v (decrypt r v d) l
-        ∙ ap₂ (λ (a b : Bytes). (v ⊕ a) ++ encrypt r (absorb v a 1) b) t (decrypt-drop v d hv h)
-        ∙ ap₂ (λ (a b : Bytes). a ++ b) (first-twice v d hv h) (ih (absorb v (v ⊕ take r d) 1) (length-absorb v (v ⊕ take r d) 1))
+        ∙ ap₂ (λ (a b : Bytes). (v ⊕₈ a) ++ encrypt r (absorb v a 1) b) t (decrypt-drop v d hv h)
+        ∙ ap₂ (λ (a b : Bytes). a ++ b) (first-twice v d hv h) (ih (absorb v (v ⊕₈ take r d) 1) (length-absorb v (v ⊕₈ take r d) 1))
         ∙ lib.ListN.take-append-drop r d)
 
     -- ---- the state after the message of a encrypt, block by block
-    pub checked-last : (v d : Bytes) → length v ≡ 160 → length d ≤ r → absorbMessage r v (decrypt r v d) ≡ absorb v (v ⊕ d) 0
+    pub checked-last : (v d : Bytes) → length v ≡ 160 → length d ≤ r → absorbMessage r v (decrypt r v d) ≡ absorb v (v ⊕₈ d) 0
     checked-last v d hv h =
         message-last v (decrypt r v d) (rw (length-decrypt d v hv) h) ∙ ap (λ (m : Bytes). absorb v m 0) (decrypt-last v d h)
 
     pub checked-more : (v d : Bytes) → length v ≡ 160 → r < length d
-        → absorbMessage r v (decrypt r v d) ≡ absorbMessage r (absorb v (v ⊕ take r d) 1) (decrypt r (absorb v (v ⊕ take r d) 1) (drop r d))
+        → absorbMessage r v (decrypt r v d) ≡ absorbMessage r (absorb v (v ⊕₈ take r d) 1) (decrypt r (absorb v (v ⊕₈ take r d) 1) (drop r d))
     checked-more v d hv h =
         message-more v (decrypt r v d) (rw (length-decrypt d v hv) h)
         ∙ ap₂ (λ (a b : Bytes). absorbMessage r (absorb v a 1) b) (decrypt-take v d hv h) (decrypt-drop v d hv h)

@@ -13,7 +13,7 @@ use Rattle.state_bytes.specs.StateBytes.{bytesOf, permuted, wordOf}
 use Rattle.bits.proofs.Cases.{two}
 use Rattle.bytes_le.proofs.Laws.{put-put}
 use Rattle.state_bytes.proofs.Words.{Shape, bytes-set-word, bytes-word}
-use Rattle.icepole.specs.Sealing.{_⊕_, absorb, pad, xorWith}
+use Rattle.icepole.specs.Sealing.{_⊕₈_, absorb, pad, xorWith}
 use Rattle.icepole.proofs.Runs.{decrypt-run, le-xor, set-run, xor-run, xor-with-run}
 use Rattle.icepole.proofs.Steps.{length-part, xor-with-zeros}
 use Rattle.icepole.proofs.Xor.{length-xor}
@@ -27,32 +27,32 @@ module _ (t : State) (ht : Shape t) (w : ℕ) (hw : w < 20) (v : Bytes) (hv : le
   fit = let l : length q ≡ 8 = lq in omega arith
 
   -- the xored wordOf, as bytes of the state's bytes b
-  new : (b : Bytes) → bytesOf t ≡ b → le 8 (bitXor (wordOf t w) k) ≡ take (length q) (drop (length p) b) ⊕ q
+  new : (b : Bytes) → bytesOf t ≡ b → le 8 (bitXor (wordOf t w) k) ≡ take (length q) (drop (length p) b) ⊕₈ q
   new b e =
       le-xor 8 (wordOf t w) k
-      ∙ ap₂ (λ (x y : Bytes). x ⊕ y) (sym (bytes-word t ht w hw)) hk
-      ∙ ap₂ (λ (m n : ℕ). take m (drop n (bytesOf t)) ⊕ q) (sym lq) (sym hp)
-      ∙ ap (λ (b : Bytes). take (length q) (drop (length p) b) ⊕ q) e
+      ∙ ap₂ (λ (x y : Bytes). x ⊕₈ y) (sym (bytes-word t ht w hw)) hk
+      ∙ ap₂ (λ (m n : ℕ). take m (drop n (bytesOf t)) ⊕₈ q) (sym lq) (sym hp)
+      ∙ ap (λ (b : Bytes). take (length q) (drop (length p) b) ⊕₈ q) e
 
   pub turn-xor-with : bytesOf t ≡ xorWith v p → bytesOf (setWord t (w % 4) (w / 4) (bitXor (wordOf t w) k)) ≡ xorWith v (p ++ q)
   turn-xor-with e =
       bytes-set-word t ht w hw (bitXor (wordOf t w) k)
       ∙ ap₂ (λ (n : ℕ) (l : Bytes). putBytes (bytesOf t) n l) (sym hp) (new (xorWith v p) e)
-      ∙ ap (λ (b : Bytes). putBytes b (length p) (take (length q) (drop (length p) (xorWith v p)) ⊕ q)) e
+      ∙ ap (λ (b : Bytes). putBytes b (length p) (take (length q) (drop (length p) (xorWith v p)) ⊕₈ q)) e
       ∙ xor-with-run v p q fit
 
-  pub turn-xor : bytesOf t ≡ xorWith v p → v ⊕ (p ++ q) ≡ (v ⊕ p) ++ le 8 (bitXor (wordOf t w) k)
-  turn-xor e = xor-run v p q fit ∙ ap (λ (l : Bytes). (v ⊕ p) ++ l) (sym (new (xorWith v p) e))
+  pub turn-xor : bytesOf t ≡ xorWith v p → v ⊕₈ (p ++ q) ≡ (v ⊕₈ p) ++ le 8 (bitXor (wordOf t w) k)
+  turn-xor e = xor-run v p q fit ∙ ap (λ (l : Bytes). (v ⊕₈ p) ++ l) (sym (new (xorWith v p) e))
 
-  pub turn-set : bytesOf t ≡ xorWith v (v ⊕ p) → bytesOf (setWord t (w % 4) (w / 4) k) ≡ xorWith v (v ⊕ (p ++ q))
+  pub turn-set : bytesOf t ≡ xorWith v (v ⊕₈ p) → bytesOf (setWord t (w % 4) (w / 4) k) ≡ xorWith v (v ⊕₈ (p ++ q))
   turn-set e =
       bytes-set-word t ht w hw k
       ∙ ap₂ (λ (n : ℕ) (l : Bytes). putBytes (bytesOf t) n l) (sym hp) hk
       ∙ ap (λ (b : Bytes). putBytes b (length p) q) e
       ∙ set-run v p q fit
 
-  pub turn-decrypt : bytesOf t ≡ xorWith v (v ⊕ p) → v ⊕ (p ++ q) ≡ (v ⊕ p) ++ le 8 (bitXor (wordOf t w) k)
-  turn-decrypt e = decrypt-run v p q fit ∙ ap (λ (l : Bytes). (v ⊕ p) ++ l) (sym (new (xorWith v (v ⊕ p)) e))
+  pub turn-decrypt : bytesOf t ≡ xorWith v (v ⊕₈ p) → v ⊕₈ (p ++ q) ≡ (v ⊕₈ p) ++ le 8 (bitXor (wordOf t w) k)
+  turn-decrypt e = decrypt-run v p q fit ∙ ap (λ (l : Bytes). (v ⊕₈ p) ++ l) (sym (new (xorWith v (v ⊕₈ p)) e))
 
 -- a word more of a part
 pub part-word : (d : Bytes) (i w : ℕ) → take (8 * (w + 1)) (drop i d) ≡ take (8 * w) (drop i d) ++ take 8 (drop (i + 8 * w) d)
@@ -78,7 +78,7 @@ module _ (d : Bytes) (i w : ℕ) (h : i + 8 * (w + 1) ≤ length d) (hw : w < 20
   lp : length (take (8 * w) (drop i d)) ≡ 8 * w
   lp = length-part d i (8 * w) (omega arith)
 
-  lx : length (v ⊕ take (8 * w) (drop i d)) ≡ 8 * w
+  lx : length (v ⊕₈ take (8 * w) (drop i d)) ≡ 8 * w
   lx = let l : length (take (8 * w) (drop i d)) ≡ 8 * w = lp in length-xor v (take (8 * w) (drop i d)) (omega arith) ∙ l
 
   pub word-xor-with : bytesOf t ≡ xorWith v (take (8 * w) (drop i d))
@@ -86,26 +86,26 @@ module _ (d : Bytes) (i w : ℕ) (h : i + 8 * (w + 1) ≤ length d) (hw : w < 20
   word-xor-with e =
       turn-xor-with t ht w hw v hv (take (8 * w) (drop i d)) (take 8 (drop (i + 8 * w) d)) lp k hk e ∙ ap (xorWith v) (sym (part-word d i w))
 
-  pub word-set : bytesOf t ≡ xorWith v (v ⊕ take (8 * w) (drop i d))
-      → bytesOf (setWord t (w % 4) (w / 4) k) ≡ xorWith v (v ⊕ take (8 * (w + 1)) (drop i d))
+  pub word-set : bytesOf t ≡ xorWith v (v ⊕₈ take (8 * w) (drop i d))
+      → bytesOf (setWord t (w % 4) (w / 4) k) ≡ xorWith v (v ⊕₈ take (8 * (w + 1)) (drop i d))
   word-set e =
       turn-set t ht w hw v hv (take (8 * w) (drop i d)) (take 8 (drop (i + 8 * w) d)) lp k hk e
-      ∙ ap (λ (l : Bytes). xorWith v (v ⊕ l)) (sym (part-word d i w))
+      ∙ ap (λ (l : Bytes). xorWith v (v ⊕₈ l)) (sym (part-word d i w))
 
-  module _ (o o₁ o₂ : Bytes) (to : ℕ) (ho : to + 8 * (w + 1) ≤ length o) (e₁ : o₁ ≡ putBytes o to (v ⊕ take (8 * w) (drop i d)))
+  module _ (o o₁ o₂ : Bytes) (to : ℕ) (ho : to + 8 * (w + 1) ≤ length o) (e₁ : o₁ ≡ putBytes o to (v ⊕₈ take (8 * w) (drop i d)))
       (e₂ : o₂ ≡ putBytes o₁ (to + 8 * w) (le 8 (bitXor (wordOf t w) k))) where
-    out : v ⊕ (take (8 * w) (drop i d) ++ take 8 (drop (i + 8 * w) d)) ≡ (v ⊕ take (8 * w) (drop i d)) ++ le 8 (bitXor (wordOf t w) k)
-        → o₂ ≡ putBytes o to (v ⊕ take (8 * (w + 1)) (drop i d))
+    out : v ⊕₈ (take (8 * w) (drop i d) ++ take 8 (drop (i + 8 * w) d)) ≡ (v ⊕₈ take (8 * w) (drop i d)) ++ le 8 (bitXor (wordOf t w) k)
+        → o₂ ≡ putBytes o to (v ⊕₈ take (8 * (w + 1)) (drop i d))
     out e =
-        let l : length (v ⊕ take (8 * w) (drop i d)) ≡ 8 * w = lx in
+        let l : length (v ⊕₈ take (8 * w) (drop i d)) ≡ 8 * w = lx in
         e₂ ∙ ap (λ (b : Bytes). putBytes b (to + 8 * w) (le 8 (bitXor (wordOf t w) k))) e₁
-        ∙ put-put o to (v ⊕ take (8 * w) (drop i d)) (le 8 (bitXor (wordOf t w) k)) (to + 8 * w) (omega arith) (omega arith)
-        ∙ ap (putBytes o to) (sym e ∙ ap (λ (l : Bytes). v ⊕ l) (sym (part-word d i w)))
+        ∙ put-put o to (v ⊕₈ take (8 * w) (drop i d)) (le 8 (bitXor (wordOf t w) k)) (to + 8 * w) (omega arith) (omega arith)
+        ∙ ap (putBytes o to) (sym e ∙ ap (λ (l : Bytes). v ⊕₈ l) (sym (part-word d i w)))
 
-    pub word-out : bytesOf t ≡ xorWith v (take (8 * w) (drop i d)) → o₂ ≡ putBytes o to (v ⊕ take (8 * (w + 1)) (drop i d))
+    pub word-out : bytesOf t ≡ xorWith v (take (8 * w) (drop i d)) → o₂ ≡ putBytes o to (v ⊕₈ take (8 * (w + 1)) (drop i d))
     word-out e = out (turn-xor t ht w hw v hv (take (8 * w) (drop i d)) (take 8 (drop (i + 8 * w) d)) lp k hk e)
 
-    pub word-decrypt : bytesOf t ≡ xorWith v (v ⊕ take (8 * w) (drop i d)) → o₂ ≡ putBytes o to (v ⊕ take (8 * (w + 1)) (drop i d))
+    pub word-decrypt : bytesOf t ≡ xorWith v (v ⊕₈ take (8 * w) (drop i d)) → o₂ ≡ putBytes o to (v ⊕₈ take (8 * (w + 1)) (drop i d))
     word-decrypt e = out (turn-decrypt t ht w hw v hv (take (8 * w) (drop i d)) (take 8 (drop (i + 8 * w) d)) lp k hk e)
 
 -- ---- a count of words that the compiler knows

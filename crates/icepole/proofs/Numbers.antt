@@ -1,14 +1,13 @@
 -- The refusal numbers, on plain numbers: each from the first condition that holds, and what number 0 tells.
 -- Assumes nothing.
 use mathlib.Core.Path.{_≡_, refl, sym}
-use mathlib.Core.Bool.{Bool, true, false, not, _||_}
+use mathlib.Core.Bool.{Bool, true, false, cond, not, _||_}
 use Prim.Native.Nat.{ℕ, suc, _+_, _-_, _≤_, _<_}
 use native.Mathlib.Omega.{arith}
 use borrow.Author.Tests.{eq-eqb, ne-eqb, lt-ltb, le-ltb, ltb-false, eqb-true, not-false}
 use lib.Dec.{eqb, ltb}
 use Rattle.bytes_le.proofs.Loads.{fits}
 use Rattle.icepole.specs.Answers.{maxLength, openNumber, sealNumber}
-use Rattle.icepole.specs.Sealing.{pick}
 use Rattle.icepole.specs.declared.Sizes.{Sizes}
 
 -- ---- sealing
@@ -109,7 +108,7 @@ module _ (q : Sizes) (k n a c : ℕ) (fits : Bool) where
 
 -- ---- what number 0 tells
 -- a condition was passed
-pub passed : (b : Bool) (n x : ℕ) → pick b (suc n) x ≡ 0 → (b ≡ false) × (x ≡ 0)
+pub passed : (b : Bool) (n x : ℕ) → cond b (suc n) x ≡ 0 → (b ≡ false) × (x ≡ 0)
 passed true n x e = absurd (omega arith)
 passed false n x e = (refl, e)
 
@@ -173,11 +172,11 @@ open-fits q k n a c fits agrees e =
     }
 
 -- ---- a number that is not 0 stands whatever the tag, and number 0 leaves the tag to decide
-pub stands : (b : Bool) (n x y num : ℕ) → (x ≡ suc num → y ≡ suc num) → pick b n x ≡ suc num → pick b n y ≡ suc num
+pub stands : (b : Bool) (n x y num : ℕ) → (x ≡ suc num → y ≡ suc num) → cond b n x ≡ suc num → cond b n y ≡ suc num
 stands true n x y num f e = e
 stands false n x y num f e = f e
 
-pub decides : (b : Bool) (n x y w : ℕ) → (x ≡ 0 → y ≡ w) → pick b (suc n) x ≡ 0 → pick b (suc n) y ≡ w
+pub decides : (b : Bool) (n x y w : ℕ) → (x ≡ 0 → y ≡ w) → cond b (suc n) x ≡ 0 → cond b (suc n) y ≡ w
 decides true n x y w f e = absurd (omega arith)
 decides false n x y w f e = f e
 
@@ -190,7 +189,7 @@ module _ (q : Sizes) (k n a c : ℕ) (fits agrees : Bool) where
       (stands (ltb maxLength a || ltb maxLength (c - (q .secret + 16))) 4 _ _ num
       (stands (ltb c (q .secret + 16)) 6 _ _ num (stands (not fits) 5 _ _ num (λ (e : 0 ≡ suc num). absurd (omega arith))))))
 
-  pub open-decides : openNumber q k n a c fits true ≡ 0 → openNumber q k n a c fits agrees ≡ pick (not agrees) 7 0
+  pub open-decides : openNumber q k n a c fits true ≡ 0 → openNumber q k n a c fits agrees ≡ cond (not agrees) 7 0
   unfolding openNumber
   open-decides =
       decides (not (eqb k (q .key))) 0 _ _ _

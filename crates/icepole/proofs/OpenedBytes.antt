@@ -9,7 +9,7 @@ use Rattle.permutation.specs.Permutation.{P}
 use Rattle.permutation.specs.State.{State}
 use Rattle.state_bytes.specs.StateBytes.{bytesBelow, bytesOf, permuted, stateOf, wordOf}
 use Rattle.bytes_le.proofs.All.{all-append, all-drop, all-le, all-take}
-use Rattle.icepole.specs.Sealing.{_⊕_, absorb, absorbAssociated, absorbBlocks, blocksBefore, decrypt, decryptBlocks, keyed, messageOf, messagePart, pad, ready, readyOf, secretOf, secretPart, xorWith}
+use Rattle.icepole.specs.Sealing.{_⊕₈_, absorb, absorbAssociated, absorbBlocks, blocksBefore, decrypt, decryptBlocks, keyed, messageOf, messagePart, pad, ready, readyOf, secretOf, secretPart, xorWith}
 use Rattle.icepole.specs.declared.Sizes.{Sizes}
 
 all-below : (s : State) (w : ℕ) → AllBytes (bytesBelow s w)
@@ -28,7 +28,7 @@ all-keyed : (k n : Bytes) → AllBytes (keyed k n)
 unfolding keyed
 all-keyed k n = all-permuted 12 _
 
-all-xor : (v b : Bytes) → AllBytes v → AllBytes b → AllBytes (v ⊕ b)
+all-xor : (v b : Bytes) → AllBytes v → AllBytes b → AllBytes (v ⊕₈ b)
 all-xor [] b hv hb = tt
 all-xor (x ∷ v) [] hv hb = tt
 all-xor (x ∷ v) (y ∷ b) hv hb = (xor-lt 8 x y (hv .0) (hb .0), all-xor v b (hv .1) (hb .1))
@@ -41,8 +41,8 @@ module _ (r : ℕ) where
   all-decrypted : (k : ℕ) (v c : Bytes) → AllBytes v → AllBytes c → AllBytes (decryptBlocks r k v c)
   all-decrypted zero v c hv hc = all-xor v c hv hc
   all-decrypted (suc k) v c hv hc =
-      all-append (v ⊕ take r c) _ (all-xor v (take r c) hv (all-take r c hc))
-      (all-decrypted k (absorb v (v ⊕ take r c) 1) (drop r c) (all-absorb v (v ⊕ take r c) 1) (all-drop r c hc))
+      all-append (v ⊕₈ take r c) _ (all-xor v (take r c) hv (all-take r c hc))
+      (all-decrypted k (absorb v (v ⊕₈ take r c) 1) (drop r c) (all-absorb v (v ⊕₈ take r c) 1) (all-drop r c hc))
 
   all-decrypt : (v c : Bytes) → AllBytes v → AllBytes c → AllBytes (decrypt r v c)
   unfolding decrypt

@@ -3,7 +3,7 @@
 use mathlib.Core.Path.{_≡_, refl, sym, ap, ap₂, _∙_}
 use mathlib.Core.List.{[], _∷_, _++_}
 use Prim.Native.Nat.{ℕ, _<_, _+_, _-_, _≤_}
-use mathlib.Core.Bool.{Bool, true, false}
+use mathlib.Core.Bool.{Bool, true, false, cond}
 use native.Mathlib.Omega.{arith}
 use lib.Dec.{eqb, leb}
 use lib.ListN.{length, take, drop, length-append, take-append-drop, length-drop}
@@ -12,7 +12,7 @@ use borrow.Author.Tests.{eq-eqb, eqb-true, le-leb, leb-true}
 use mathlib.Core.Option.{Option, some, none}
 use Rattle.bytes_le.specs.Bytes.{Bytes}
 use Rattle.state_bytes.proofs.Lengths.{length-permuted}
-use Rattle.icepole.specs.Sealing.{_⊕_, absorb, absorbMessage, decrypt, encrypt, expectedTag, keyed, messageOf, messagePart, pick, ready, readyOf, same, sealed, secretOf, secretPart, tag, tagPart}
+use Rattle.icepole.specs.Sealing.{_⊕₈_, absorb, absorbMessage, decrypt, encrypt, expectedTag, keyed, messageOf, messagePart, ready, readyOf, same, sealed, secretOf, secretPart, tag, tagPart}
 use Rattle.icepole.specs.declared.Sizes.{Sizes}
 use Rattle.icepole.proofs.Blocks.{decrypt-encrypt, encrypt-decrypt, length-associated, length-decrypt, length-encrypt, length-message}
 use Rattle.icepole.proofs.Xor.{length-xor, xor-twice}
@@ -21,27 +21,27 @@ same-self : (l : Bytes) → same l l ≡ true
 same-self [] = refl
 same-self (x ∷ xs) = simp (eq-eqb x x refl) (same-self xs)
 
-pick-true : {A : Type 0} (b : Bool) (x : Option A) (y : A) → pick b x none ≡ some y → (b ≡ true) × (x ≡ some y)
-pick-true true x y e = (refl, e)
-pick-true false x y e = let z : _≡_ {A = ℕ} 0 1 = cc in absurd (omega arith)
+cond-true : {A : Type 0} (b : Bool) (x : Option A) (y : A) → cond b x none ≡ some y → (b ≡ true) × (x ≡ some y)
+cond-true true x y e = (refl, e)
+cond-true false x y e = let z : _≡_ {A = ℕ} 0 1 = cc in absurd (omega arith)
 
-pick-test : (b c : Bool) → pick b c false ≡ true → (b ≡ true) × (c ≡ true)
-pick-test true c e = (refl, e)
-pick-test false c e = let z : _≡_ {A = ℕ} 0 1 = cc in absurd (omega arith)
+cond-test : (b c : Bool) → cond b c false ≡ true → (b ≡ true) × (c ≡ true)
+cond-test true c e = (refl, e)
+cond-test false c e = let z : _≡_ {A = ℕ} 0 1 = cc in absurd (omega arith)
 
 pub same-true : (xs ys : Bytes) → same xs ys ≡ true → xs ≡ ys
 same-true [] [] e = refl
 same-true [] (y ∷ ys) e = let z : _≡_ {A = ℕ} 0 1 = cc in absurd (omega arith)
 same-true (x ∷ xs) [] e = let z : _≡_ {A = ℕ} 0 1 = cc in absurd (omega arith)
 same-true (x ∷ xs) (y ∷ ys) e =
-    let p = pick-test (eqb x y) (same xs ys) e in
+    let p = cond-test (eqb x y) (same xs ys) e in
     ap₂ (λ (a : ℕ) (l : Bytes). a ∷ l) (eqb-true x y (p .0)) (same-true xs ys (p .1))
 
 -- the secret number and the message, where the tag agrees
 unfoldable pub opened : Sizes → Bytes → Bytes → Bytes → Bytes → Option (Bytes × Bytes)
 opened q key nonce ad c =
-    pick (leb (q .secret + 16) (length c))
-    (pick (same (expectedTag q key nonce ad c) (tagPart c)) (some (secretOf q key nonce c, messageOf q key nonce ad c)) none)
+    cond (leb (q .secret + 16) (length c))
+    (cond (same (expectedTag q key nonce ad c) (tagPart c)) (some (secretOf q key nonce c, messageOf q key nonce ad c)) none)
     none
 
 pub length-keyed : (k n : Bytes) → length (keyed k n) ≡ 160
@@ -66,7 +66,7 @@ module _ (q : Sizes) (hb : 0 < q .block) (hr : q .block < 160) (hs : q .secret <
     u = ready (q .block) (keyed k n) s a
 
     c₀ : Bytes
-    c₀ = keyed k n ⊕ s
+    c₀ = keyed k n ⊕₈ s
 
     c₁ : Bytes
     c₁ = encrypt (q .block) (ready (q .block) (keyed k n) s a) m
@@ -100,7 +100,7 @@ module _ (q : Sizes) (hb : 0 < q .block) (hr : q .block < 160) (hs : q .secret <
     unfolding secretOf c₀
     secret-of-sealed =
         let e : length (keyed k n) ≡ 160 = length-keyed k n in
-        ap (λ (b : Bytes). keyed k n ⊕ b) secret-part ∙ xor-twice (keyed k n) s (omega arith)
+        ap (λ (b : Bytes). keyed k n ⊕₈ b) secret-part ∙ xor-twice (keyed k n) s (omega arith)
 
     ready-in : readyOf q k n a (sealed q k n s a m) ≡ u
     unfolding readyOf u
@@ -174,15 +174,15 @@ module _ (q : Sizes) (hb : 0 < q .block) (hr : q .block < 160) (hs : q .secret <
   pub seal-open : (k n a c s m : Bytes) → opened q k n a c ≡ some (s, m) → c ≡ sealed q k n s a m
   unfolding opened sealed secretOf readyOf messageOf expectedTag first second
   seal-open k n a c s m e =
-      let p = pick-true (leb (q .secret + 16) (length c)) _ (s, m) e in
-      let p₂ = pick-true (same (expectedTag q k n a c) (tagPart c)) _ (s, m) (p .1) in
+      let p = cond-true (leb (q .secret + 16) (length c)) _ (s, m) e in
+      let p₂ = cond-true (same (expectedTag q k n a c) (tagPart c)) _ (s, m) (p .1) in
       let h : q .secret + 16 ≤ length c = leb-true _ _ (p .0) in
       let t : expectedTag q k n a c ≡ tagPart c = same-true _ _ (p₂ .0) in
       let es : secretOf q k n c ≡ s = ap first (p₂ .1) in
       let em : messageOf q k n a c ≡ m = ap second (p₂ .1) in
       let lv : length (keyed k n) ≡ 160 = length-keyed k n in
       let lt : length (take (q .secret) c) ≡ q .secret = length-take-le (q .secret) c (omega arith) in
-      let x₀ : keyed k n ⊕ secretOf q k n c ≡ secretPart q c = xor-twice (keyed k n) (secretPart q c) (omega arith) in
+      let x₀ : keyed k n ⊕₈ secretOf q k n c ≡ secretPart q c = xor-twice (keyed k n) (secretPart q c) (omega arith) in
       let x₁ : encrypt (q .block) (readyOf q k n a c) (messageOf q k n a c) ≡ messagePart q c =
       encrypt-decrypt (q .block) hb hr (messagePart q c) (readyOf q k n a c) (length-ready (keyed k n) (secretOf q k n c) a) in
       sym

@@ -9,71 +9,71 @@ use lib.Bits.{bitXor, xor-shr, xor-mod}
 use lib.ListN.{length, take, drop}
 use Rattle.bytes_le.specs.Bytes.{Bytes, le, putBytes}
 use Rattle.bytes_le.proofs.Laws.{put-front, put-next}
-use Rattle.icepole.specs.Sealing.{_⊕_, xorWith}
+use Rattle.icepole.specs.Sealing.{_⊕₈_, xorWith}
 use Rattle.icepole.proofs.Xor.{xor-cancel, xor-none}
 
 -- the bytes of an exclusive or of words
-pub le-xor : (n a b : ℕ) → le n (bitXor a b) ≡ le n a ⊕ le n b
+pub le-xor : (n a b : ℕ) → le n (bitXor a b) ≡ le n a ⊕₈ le n b
 le-xor zero a b = refl
 le-xor (suc n) a b =
     ap₂ (λ (x : ℕ) (l : Bytes). x ∷ l) (xor-mod a b 8)
     (ap (le n) (xor-shr a b 8) ∙ le-xor n (a / 256) (b / 256))
 
 -- only so many bytes count
-xor-take : (v q : Bytes) → take (length q) v ⊕ q ≡ v ⊕ q
+xor-take : (v q : Bytes) → take (length q) v ⊕₈ q ≡ v ⊕₈ q
 xor-take v [] = sym (xor-none v)
 xor-take [] (y ∷ q) = refl
 xor-take (x ∷ v) (y ∷ q) = ap (λ (l : Bytes). bitXor x y ∷ l) (xor-take v q)
 
-length-xor-take : (v q : Bytes) → length q ≤ length v → length (take (length q) v ⊕ q) ≡ length q
+length-xor-take : (v q : Bytes) → length q ≤ length v → length (take (length q) v ⊕₈ q) ≡ length q
 length-xor-take v [] h = refl
 length-xor-take [] (y ∷ q) h = absurd (not-suc-le-zero h)
 length-xor-take (x ∷ v) (y ∷ q) h = ap suc (length-xor-take v q (le-of-suc-le-suc h))
 
-xor-with-front : (v q : Bytes) → length q ≤ length v → xorWith v q ≡ (take (length q) v ⊕ q) ++ drop (length q) v
+xor-with-front : (v q : Bytes) → length q ≤ length v → xorWith v q ≡ (take (length q) v ⊕₈ q) ++ drop (length q) v
 xor-with-front v [] h = refl
 xor-with-front [] (y ∷ q) h = absurd (not-suc-le-zero h)
 xor-with-front (x ∷ v) (y ∷ q) h = ap (λ (l : Bytes). bitXor x y ∷ l) (xor-with-front v q (le-of-suc-le-suc h))
 
 -- a run more is xored in
 pub xor-with-run : (v p q : Bytes) → length p + length q ≤ length v
-    → putBytes (xorWith v p) (length p) (take (length q) (drop (length p) (xorWith v p)) ⊕ q) ≡ xorWith v (p ++ q)
+    → putBytes (xorWith v p) (length p) (take (length q) (drop (length p) (xorWith v p)) ⊕₈ q) ≡ xorWith v (p ++ q)
 xor-with-run v [] q h =
-    put-front v (take (length q) v ⊕ q)
-    ∙ ap (λ (k : ℕ). (take (length q) v ⊕ q) ++ drop k v) (length-xor-take v q (omega arith))
+    put-front v (take (length q) v ⊕₈ q)
+    ∙ ap (λ (k : ℕ). (take (length q) v ⊕₈ q) ++ drop k v) (length-xor-take v q (omega arith))
     ∙ sym (xor-with-front v q (omega arith))
 xor-with-run [] (y ∷ p) q h = absurd (omega arith)
 xor-with-run (x ∷ v) (y ∷ p) q h =
-    put-next (bitXor x y) (xorWith v p) (length p) (take (length q) (drop (length p) (xorWith v p)) ⊕ q)
+    put-next (bitXor x y) (xorWith v p) (length p) (take (length q) (drop (length p) (xorWith v p)) ⊕₈ q)
     ∙ ap (λ (l : Bytes). bitXor x y ∷ l) (xor-with-run v p q (omega arith))
 
 -- and its cipher
 pub xor-run : (v p q : Bytes) → length p + length q ≤ length v
-    → v ⊕ (p ++ q) ≡ (v ⊕ p) ++ (take (length q) (drop (length p) (xorWith v p)) ⊕ q)
-xor-run v [] q h = sym (ap (λ (l : Bytes). l ++ (take (length q) v ⊕ q)) (xor-none v) ∙ xor-take v q)
+    → v ⊕₈ (p ++ q) ≡ (v ⊕₈ p) ++ (take (length q) (drop (length p) (xorWith v p)) ⊕₈ q)
+xor-run v [] q h = sym (ap (λ (l : Bytes). l ++ (take (length q) v ⊕₈ q)) (xor-none v) ∙ xor-take v q)
 xor-run [] (y ∷ p) q h = absurd (omega arith)
 xor-run (x ∷ v) (y ∷ p) q h = ap (λ (l : Bytes). bitXor x y ∷ l) (xor-run v p q (omega arith))
 
 -- a run of a ciphertext takes the state's place
-xor-with-same : (v q : Bytes) → length q ≤ length v → xorWith v (v ⊕ q) ≡ q ++ drop (length q) v
+xor-with-same : (v q : Bytes) → length q ≤ length v → xorWith v (v ⊕₈ q) ≡ q ++ drop (length q) v
 xor-with-same v [] h = ap (xorWith v) (xor-none v)
 xor-with-same [] (y ∷ q) h = absurd (not-suc-le-zero h)
 xor-with-same (x ∷ v) (y ∷ q) h = ap₂ (λ (z : ℕ) (l : Bytes). z ∷ l) (xor-cancel x y) (xor-with-same v q (le-of-suc-le-suc h))
 
-pub set-run : (v p q : Bytes) → length p + length q ≤ length v → putBytes (xorWith v (v ⊕ p)) (length p) q ≡ xorWith v (v ⊕ (p ++ q))
+pub set-run : (v p q : Bytes) → length p + length q ≤ length v → putBytes (xorWith v (v ⊕₈ p)) (length p) q ≡ xorWith v (v ⊕₈ (p ++ q))
 set-run v [] q h =
     ap (λ (l : Bytes). putBytes (xorWith v l) 0 q) (xor-none v) ∙ put-front v q ∙ sym (xor-with-same v q (omega arith))
 set-run [] (y ∷ p) q h = absurd (omega arith)
 set-run (x ∷ v) (y ∷ p) q h =
-    put-next (bitXor x (bitXor x y)) (xorWith v (v ⊕ p)) (length p) q
+    put-next (bitXor x (bitXor x y)) (xorWith v (v ⊕₈ p)) (length p) q
     ∙ ap (λ (l : Bytes). bitXor x (bitXor x y) ∷ l) (set-run v p q (omega arith))
 
 -- and its message
 pub decrypt-run : (v p q : Bytes) → length p + length q ≤ length v
-    → v ⊕ (p ++ q) ≡ (v ⊕ p) ++ (take (length q) (drop (length p) (xorWith v (v ⊕ p))) ⊕ q)
+    → v ⊕₈ (p ++ q) ≡ (v ⊕₈ p) ++ (take (length q) (drop (length p) (xorWith v (v ⊕₈ p))) ⊕₈ q)
 decrypt-run v [] q h =
     sym
-    (ap₂ (λ (l k : Bytes). l ++ (take (length q) (xorWith v k) ⊕ q)) (xor-none v) (xor-none v)
+    (ap₂ (λ (l k : Bytes). l ++ (take (length q) (xorWith v k) ⊕₈ q)) (xor-none v) (xor-none v)
     ∙ xor-take v q)
 decrypt-run [] (y ∷ p) q h = absurd (omega arith)
 decrypt-run (x ∷ v) (y ∷ p) q h = ap (λ (l : Bytes). bitXor x y ∷ l) (decrypt-run v p q (omega arith))

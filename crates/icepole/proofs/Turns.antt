@@ -10,7 +10,7 @@ use types.Run.{from}
 use Rattle.bytes_le.specs.Bytes.{Bytes, putBytes}
 use Rattle.permutation.specs.Permutation.{R}
 use Rattle.bytes_le.proofs.Laws.{put-put}
-use Rattle.icepole.specs.Sealing.{_⊕_, absorb, absorbAssociated, absorbMessage, decrypt, encrypt}
+use Rattle.icepole.specs.Sealing.{_⊕₈_, absorb, absorbAssociated, absorbMessage, decrypt, encrypt}
 use Rattle.icepole.proofs.Blocks.{associated-last, associated-more, checked-last, checked-more, decrypt-last, decrypt-more, encrypt-last, encrypt-more, message-last, message-more}
 use Rattle.icepole.proofs.Steps.{length-part}
 use Rattle.icepole.proofs.Xor.{length-xor}
@@ -68,7 +68,7 @@ module _ (r : ℕ) (hr : 0 < r) (d : Bytes) (at : ℕ) where
       et ∙ ap (λ (b : Bytes). absorb s b 0) (rest d at k ek) ∙ sym (message-last r hr s (drop at d) (shorter (rw ek at h))) ∙ e
 
   module _ (hs : r < 160) (s : Bytes) (ls : length s ≡ 160) where
-    length-b : r < length d - at → length (s ⊕ take r (drop at d)) ≡ r
+    length-b : r < length d - at → length (s ⊕₈ take r (drop at d)) ≡ r
     length-b h =
         let l : length (take r (drop at d)) ≡ r = length-part d at r (omega arith) in
         length-xor s (take r (drop at d)) (omega arith) ∙ l
@@ -76,63 +76,63 @@ module _ (r : ℕ) (hr : 0 < r) (d : Bytes) (at : ℕ) where
     module _ (o o₁ o₂ c : Bytes) (to : ℕ) (lc : length c ≡ length d) (ho : to + length d ≤ length o) (e₁ : o₁ ≡ putBytes o to (take at c)) where
       -- ---- the encrypt c of a message
       pub encrypt-turn : (t : Bytes) → r < length d - at → encrypt r s (drop at d) ≡ drop at c → t ≡ absorb s (take r (drop at d)) 1
-          → o₂ ≡ putBytes o₁ (to + at) (s ⊕ take r (drop at d))
+          → o₂ ≡ putBytes o₁ (to + at) (s ⊕₈ take r (drop at d))
           → (encrypt r t (drop (at + r) d) ≡ drop (at + r) c) × (o₂ ≡ putBytes o to (take (at + r) c))
       encrypt-turn t h e et e₂ =
-          let w = s ⊕ take r (drop at d) in
+          let w = s ⊕₈ take r (drop at d) in
           let x = encrypt r (absorb s (take r (drop at d)) 1) (drop r (drop at d)) in
-          let lw : length (s ⊕ take r (drop at d)) ≡ r = length-b h in
+          let lw : length (s ⊕₈ take r (drop at d)) ≡ r = length-b h in
           let f : drop at c ≡ w ++ x = sym e ∙ encrypt-more r hr s (drop at d) (longer h) in (
             ap₂ (encrypt r) et (sym (drop-drop r at d)) ∙ sym (drop-at w x r lw) ∙ ap (drop r) (sym f) ∙ drop-drop r at c,
             rw lw at (put-turn o o₁ o₂ c w x to at (omega arith) (rw lc ho) f e₁ e₂),
           )
 
       pub encrypt-end : (k : ℕ) → at ≤ length d → k ≡ length d - at → k ≤ r → encrypt r s (drop at d) ≡ drop at c
-          → o₂ ≡ putBytes o₁ (to + at) (s ⊕ take k (drop at d)) → o₂ ≡ putBytes o to c
+          → o₂ ≡ putBytes o₁ (to + at) (s ⊕₈ take k (drop at d)) → o₂ ≡ putBytes o to c
       encrypt-end k ha ek h e e₂ =
-          let w = s ⊕ take k (drop at d) in
+          let w = s ⊕₈ take k (drop at d) in
           let lk : length (take k (drop at d)) ≡ k = length-part d at k (omega arith) in
-          let lw : length (s ⊕ take k (drop at d)) ≡ k = length-xor s (take k (drop at d)) (omega arith) ∙ lk in
+          let lw : length (s ⊕₈ take k (drop at d)) ≡ k = length-xor s (take k (drop at d)) (omega arith) ∙ lk in
           let f : drop at c ≡ w ++ [] =
-          sym e ∙ encrypt-last r hr s (drop at d) (shorter (rw ek at h)) ∙ ap (λ (b : Bytes). s ⊕ b) (sym (rest d at k ek)) ∙ sym (append-nil w) in
+          sym e ∙ encrypt-last r hr s (drop at d) (shorter (rw ek at h)) ∙ ap (λ (b : Bytes). s ⊕₈ b) (sym (rest d at k ek)) ∙ sym (append-nil w) in
           put-turn o o₁ o₂ c w [] to at (omega arith) (rw lc ho) f e₁ e₂
           ∙ ap (putBytes o to) (take-all (at + length w) c (omega arith))
 
       -- ---- the message c of a encrypt
-      pub decrypt-turn : (t : Bytes) → r < length d - at → decrypt r s (drop at d) ≡ drop at c → t ≡ absorb s (s ⊕ take r (drop at d)) 1
-          → o₂ ≡ putBytes o₁ (to + at) (s ⊕ take r (drop at d))
+      pub decrypt-turn : (t : Bytes) → r < length d - at → decrypt r s (drop at d) ≡ drop at c → t ≡ absorb s (s ⊕₈ take r (drop at d)) 1
+          → o₂ ≡ putBytes o₁ (to + at) (s ⊕₈ take r (drop at d))
           → (decrypt r t (drop (at + r) d) ≡ drop (at + r) c) × (o₂ ≡ putBytes o to (take (at + r) c))
       decrypt-turn t h e et e₂ =
-          let w = s ⊕ take r (drop at d) in
-          let x = decrypt r (absorb s (s ⊕ take r (drop at d)) 1) (drop r (drop at d)) in
-          let lw : length (s ⊕ take r (drop at d)) ≡ r = length-b h in
+          let w = s ⊕₈ take r (drop at d) in
+          let x = decrypt r (absorb s (s ⊕₈ take r (drop at d)) 1) (drop r (drop at d)) in
+          let lw : length (s ⊕₈ take r (drop at d)) ≡ r = length-b h in
           let f : drop at c ≡ w ++ x = sym e ∙ decrypt-more r hr s (drop at d) (longer h) in (
             ap₂ (decrypt r) et (sym (drop-drop r at d)) ∙ sym (drop-at w x r lw) ∙ ap (drop r) (sym f) ∙ drop-drop r at c,
             rw lw at (put-turn o o₁ o₂ c w x to at (omega arith) (rw lc ho) f e₁ e₂),
           )
 
       pub decrypt-end : (k : ℕ) → at ≤ length d → k ≡ length d - at → k ≤ r → decrypt r s (drop at d) ≡ drop at c
-          → o₂ ≡ putBytes o₁ (to + at) (s ⊕ take k (drop at d)) → o₂ ≡ putBytes o to c
+          → o₂ ≡ putBytes o₁ (to + at) (s ⊕₈ take k (drop at d)) → o₂ ≡ putBytes o to c
       decrypt-end k ha ek h e e₂ =
-          let w = s ⊕ take k (drop at d) in
+          let w = s ⊕₈ take k (drop at d) in
           let lk : length (take k (drop at d)) ≡ k = length-part d at k (omega arith) in
-          let lw : length (s ⊕ take k (drop at d)) ≡ k = length-xor s (take k (drop at d)) (omega arith) ∙ lk in
+          let lw : length (s ⊕₈ take k (drop at d)) ≡ k = length-xor s (take k (drop at d)) (omega arith) ∙ lk in
           let f : drop at c ≡ w ++ [] =
-          sym e ∙ decrypt-last r hr s (drop at d) (shorter (rw ek at h)) ∙ ap (λ (b : Bytes). s ⊕ b) (sym (rest d at k ek)) ∙ sym (append-nil w) in
+          sym e ∙ decrypt-last r hr s (drop at d) (shorter (rw ek at h)) ∙ ap (λ (b : Bytes). s ⊕₈ b) (sym (rest d at k ek)) ∙ sym (append-nil w) in
           put-turn o o₁ o₂ c w [] to at (omega arith) (rw lc ho) f e₁ e₂
           ∙ ap (putBytes o to) (take-all (at + length w) c (omega arith))
 
     -- ---- the state after the message of a encrypt
-    pub checked-turn : (t R : Bytes) → r < length d - at → absorbMessage r s (decrypt r s (drop at d)) ≡ R → t ≡ absorb s (s ⊕ take r (drop at d)) 1
+    pub checked-turn : (t R : Bytes) → r < length d - at → absorbMessage r s (decrypt r s (drop at d)) ≡ R → t ≡ absorb s (s ⊕₈ take r (drop at d)) 1
         → absorbMessage r t (decrypt r t (drop (at + r) d)) ≡ R
     checked-turn t R h e et =
         ap₂ (λ (t b : Bytes). absorbMessage r t (decrypt r t b)) et (sym (drop-drop r at d))
         ∙ sym (checked-more r hr hs s (drop at d) ls (longer h)) ∙ e
 
     pub checked-end : (t R : Bytes) (k : ℕ) → k ≡ length d - at → k ≤ r → absorbMessage r s (decrypt r s (drop at d)) ≡ R
-        → t ≡ absorb s (s ⊕ take k (drop at d)) 0 → t ≡ R
+        → t ≡ absorb s (s ⊕₈ take k (drop at d)) 0 → t ≡ R
     checked-end t R k ek h e et =
-        et ∙ ap (λ (b : Bytes). absorb s (s ⊕ b) 0) (rest d at k ek)
+        et ∙ ap (λ (b : Bytes). absorb s (s ⊕₈ b) 0) (rest d at k ek)
         ∙ sym (checked-last r hr hs s (drop at d) ls (shorter (rw ek at h))) ∙ e
 
 -- a block of the n bytes of c from index from on

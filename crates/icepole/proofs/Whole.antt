@@ -12,7 +12,7 @@ use Rattle.bytes_le.specs.Bytes.{Bytes, putBytes}
 use Rattle.bytes_le.proofs.Laws.{put-put}
 use Rattle.icepole.specs.Answers.{tagAgrees}
 use Rattle.icepole.specs.Bounds.{Bounded}
-use Rattle.icepole.specs.Sealing.{_⊕_, absorb, absorbAssociated, absorbMessage, decrypt, encrypt, expectedTag, keyed, messageOf, messagePart, ready, readyOf, same, sealed, secretOf, tag, tagPart}
+use Rattle.icepole.specs.Sealing.{_⊕₈_, absorb, absorbAssociated, absorbMessage, decrypt, encrypt, expectedTag, keyed, messageOf, messagePart, ready, readyOf, same, sealed, secretOf, tag, tagPart}
 use Rattle.icepole.specs.declared.Sizes.{Sizes}
 use Rattle.icepole.proofs.Blocks.{length-encrypt}
 use Rattle.icepole.proofs.Opening.{length-keyed, length-ready}
@@ -30,26 +30,26 @@ decrypt-by o o₂ u m i r r′ e h = h ∙ ap (λ (r : ℕ). putBytes o i (decry
 
 -- what stands before the message: the sealed secret number, and the state after the associated data
 pub sealed-ready : (q : Sizes) (k n s a o o₁ v x u : Bytes)
-    → v ≡ keyed k n → x ≡ absorb v (take (length s) s) 0 → o₁ ≡ putBytes o 0 (v ⊕ take (length s) s) → u ≡ absorbAssociated (q .block) x a
-    → (u ≡ ready (q .block) (keyed k n) s a) × (o₁ ≡ putBytes o 0 (keyed k n ⊕ s))
+    → v ≡ keyed k n → x ≡ absorb v (take (length s) s) 0 → o₁ ≡ putBytes o 0 (v ⊕₈ take (length s) s) → u ≡ absorbAssociated (q .block) x a
+    → (u ≡ ready (q .block) (keyed k n) s a) × (o₁ ≡ putBytes o 0 (keyed k n ⊕₈ s))
 unfolding ready
 sealed-ready q k n s a o o₁ v x u ev ex e₁ eu =
     let ets : take (length s) s ≡ s = take-length s in (
       eu ∙ ap (λ (x : Bytes). absorbAssociated (q .block) x a) (ex ∙ ap₂ (λ (v s : Bytes). absorb v s 0) ev ets),
-      e₁ ∙ ap₂ (λ (v s : Bytes). putBytes o 0 (v ⊕ s)) ev ets,
+      e₁ ∙ ap₂ (λ (v s : Bytes). putBytes o 0 (v ⊕₈ s)) ev ets,
     )
 
 -- the runs of bytes of a sealed message
 pub sealed-runs : (q : Sizes) (hq : Bounded q) (k n s a m o o₁ o₂ o₃ u w : Bytes) → length s ≡ q .secret
     → q .secret + (length m + 16) ≤ length o
-    → u ≡ ready (q .block) (keyed k n) s a → o₁ ≡ putBytes o 0 (keyed k n ⊕ s)
+    → u ≡ ready (q .block) (keyed k n) s a → o₁ ≡ putBytes o 0 (keyed k n ⊕₈ s)
     → w ≡ absorbMessage (q .block) u m → o₂ ≡ putBytes o₁ (q .secret) (encrypt (q .block) u m)
     → length w ≡ 160 → o₃ ≡ putBytes o₂ (q .secret + length m) (take 16 w)
     → o₃ ≡ putBytes o 0 (sealed q k n s a m)
 unfolding sealed
 sealed-runs q hq k n s a m o o₁ o₂ o₃ u w hs ho eu e₁ ew e₂ lw e₃ =
     let u′ : Bytes = ready (q .block) (keyed k n) s a in
-    let c₀ : Bytes = keyed k n ⊕ s in
+    let c₀ : Bytes = keyed k n ⊕₈ s in
     let c₁ : Bytes = encrypt (q .block) u′ m in
     let l₀ : length c₀ ≡ length s = length-xor (keyed k n) s (let e : length (keyed k n) ≡ 160 = length-keyed k n in omega (arith, hq .secret)) in
     let l₁ : length c₁ ≡ length m = length-encrypt (q .block) (hq .some) (hq .block) m u′ (length-ready q (hq .some) (hq .block) (omega (arith, hq .secret)) (keyed k n) s a) in
@@ -65,11 +65,11 @@ sealed-runs q hq k n s a m o o₁ o₂ o₃ u w hs ho eu e₁ ew e₂ lw e₃ =
 
 -- ---- opening: the secret number, the state after the associated data, the tag, the message
 module _ (q : Sizes) (k n a c v x u : Bytes) (ev : v ≡ keyed k n) where
-  pub secret-runs : v ⊕ take (q .secret) c ≡ secretOf q k n c
+  pub secret-runs : v ⊕₈ take (q .secret) c ≡ secretOf q k n c
   unfolding secretOf
-  secret-runs = ap (λ (v : Bytes). v ⊕ take (q .secret) c) ev
+  secret-runs = ap (λ (v : Bytes). v ⊕₈ take (q .secret) c) ev
 
-  pub ready-runs : x ≡ absorb v (v ⊕ take (q .secret) c) 0 → u ≡ absorbAssociated (q .block) x a → u ≡ readyOf q k n a c
+  pub ready-runs : x ≡ absorb v (v ⊕₈ take (q .secret) c) 0 → u ≡ absorbAssociated (q .block) x a → u ≡ readyOf q k n a c
   unfolding readyOf ready
   ready-runs ex eu = eu ∙ ap (λ (x : Bytes). absorbAssociated (q .block) x a) (ex ∙ ap₂ (λ (v s : Bytes). absorb v s 0) ev secret-runs)
 

@@ -9,7 +9,7 @@ use lib.Bits.{bitXor, xor-shr, xor-mod, differ, xor-step}
 use lib.Arith.{bin-ind}
 use Rattle.bytes_le.specs.Bytes.{Bytes}
 use Rattle.bits.proofs.Cases.{two}
-use Rattle.icepole.specs.Sealing.{_⊕_, xorWith}
+use Rattle.icepole.specs.Sealing.{_⊕₈_, xorWith}
 
 bits-cancel : (x y : ℕ) → x < 2 → y < 2 → differ x (differ x y) ≡ y
 bits-cancel x y hx hy =
@@ -34,17 +34,17 @@ xor-cancel =
     (ap (differ (n % 2)) (xor-odd n b) ∙ bits-cancel (n % 2) (b % 2) (mod-lt n (zero-lt-suc 1)) (mod-lt b (zero-lt-suc 1)))
     ∙ div-add-mod' b 2)
 
-pub xor-none : (v : Bytes) → v ⊕ [] ≡ []
+pub xor-none : (v : Bytes) → v ⊕₈ [] ≡ []
 xor-none [] = refl
 xor-none (x ∷ v) = refl
 
-pub length-xor : (v b : Bytes) → length b ≤ length v → length (v ⊕ b) ≡ length b
+pub length-xor : (v b : Bytes) → length b ≤ length v → length (v ⊕₈ b) ≡ length b
 length-xor [] [] h = refl
 length-xor [] (y ∷ b) h = absurd (not-suc-le-zero h)
 length-xor (x ∷ v) [] h = refl
 length-xor (x ∷ v) (y ∷ b) h = ap suc (length-xor v b (le-of-suc-le-suc h))
 
-pub xor-twice : (v b : Bytes) → length b ≤ length v → v ⊕ (v ⊕ b) ≡ b
+pub xor-twice : (v b : Bytes) → length b ≤ length v → v ⊕₈ (v ⊕₈ b) ≡ b
 xor-twice [] [] h = refl
 xor-twice [] (y ∷ b) h = absurd (not-suc-le-zero h)
 xor-twice (x ∷ v) [] h = refl
@@ -69,14 +69,14 @@ xor-with-snoc (x ∷ v) [] z h = refl
 xor-with-snoc (x ∷ v) (y ∷ b) z h = ap (λ (l : Bytes). bitXor x y ∷ l) (xor-with-snoc v b z (le-of-suc-le-suc h))
 
 pub xor-snoc : (v b : Bytes) (z : ℕ) → length b < length v
-    → v ⊕ (b ++ (z ∷ [])) ≡ (v ⊕ b) ++ (bitXor (getD v (length b) 0) z ∷ [])
+    → v ⊕₈ (b ++ (z ∷ [])) ≡ (v ⊕₈ b) ++ (bitXor (getD v (length b) 0) z ∷ [])
 xor-snoc [] b z h = absurd (not-suc-le-zero h)
 xor-snoc (x ∷ v) [] z h = ap (λ (l : Bytes). bitXor x z ∷ l) (xor-none v)
 xor-snoc (x ∷ v) (y ∷ b) z h = ap (λ (l : Bytes). bitXor x y ∷ l) (xor-snoc v b z (le-of-suc-le-suc h))
 
 -- the byte that comes next, of a ciphertext, takes the state's place
 pub xor-with-set : (v c : Bytes) (z : ℕ) → length c < length v
-    → set (xorWith v (v ⊕ c)) (length c) z ≡ xorWith v (v ⊕ (c ++ (z ∷ [])))
+    → set (xorWith v (v ⊕₈ c)) (length c) z ≡ xorWith v (v ⊕₈ (c ++ (z ∷ [])))
 xor-with-set [] c z h = absurd (not-suc-le-zero h)
 xor-with-set (x ∷ v) [] z h = λ i. sym (xor-cancel x z) i ∷ xorWith v (sym (xor-none v) i)
 xor-with-set (x ∷ v) (y ∷ c) z h = ap (λ (l : Bytes). bitXor x (bitXor x y) ∷ l) (xor-with-set v c z (le-of-suc-le-suc h))

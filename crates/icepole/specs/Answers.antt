@@ -1,6 +1,6 @@
 -- What sealing, verifying and opening answer and leave in the lent buffer, for good and bad calls (01, "Turned down, by example").
 -- Assumes nothing.
-use mathlib.Core.Bool.{Bool, true, not, _||_}
+use mathlib.Core.Bool.{Bool, true, cond, not, _||_}
 use mathlib.Core.List.{List, [], _∷_}
 use Prim.Native.Nat.{ℕ, _+_, _-_}
 use lib.Dec.{eqb, leb, ltb}
@@ -11,7 +11,7 @@ use Rattle.icepole.specs.declared.Variant.{Variant}
 use Rattle.icepole.specs.declared.Sealed.{Sealed}
 use Rattle.icepole.specs.declared.Opened.{Opened}
 use Rattle.icepole.specs.Variants.{sizes}
-use Rattle.icepole.specs.Sealing.{pick, same, sealed, secretOf, messageOf, expectedTag, tagPart}
+use Rattle.icepole.specs.Sealing.{same, sealed, secretOf, messageOf, expectedTag, tagPart}
 
 -- a condition and its refusal number
 pub record Condition : Type 0 where
@@ -25,7 +25,7 @@ n when b = record { holds = b; number = n }
 -- the number of the first condition that holds, read top down; 0 where none does
 abbrev pub refusal : List Condition → ℕ
 refusal [] = 0
-refusal (c ∷ cs) = pick (c .holds) (c .number) (refusal cs)
+refusal (c ∷ cs) = cond (c .holds) (c .number) (refusal cs)
 
 -- associated data and message are at most so many bytes each
 abbrev pub maxLength : ℕ
@@ -57,15 +57,15 @@ openNumber q k n a c fits agrees =
 
 -- ---- answers: with a refusal go zeros, and the mark is 0
 abbrev pub sealedAnswer : ℕ → ℕ → Sealed
-sealedAnswer num count = record { refusal = num; mark = 0; count = pick (eqb num 0) count 0 }
+sealedAnswer num count = record { refusal = num; mark = 0; count = cond (eqb num 0) count 0 }
 
 abbrev pub openedAnswer : ℕ → ℕ → Bytes → Opened
 openedAnswer num count secret =
-    record { refusal = num; mark = 0; length = pick (eqb num 0) count 0; secret = pick (eqb num 0) (putBytes (replicate 16 0) 0 secret) (replicate 16 0) }
+    record { refusal = num; mark = 0; length = cond (eqb num 0) count 0; secret = cond (eqb num 0) (putBytes (replicate 16 0) 0 secret) (replicate 16 0) }
 
 -- a lent buffer after a call: as it was where the call was refused
 abbrev pub unless : ℕ → Bytes → Bytes → Bytes
-unless num was is = pick (eqb num 0) is was
+unless num was is = cond (eqb num 0) is was
 
 -- ---- sealing
 module _ (v : Variant) (key nonce secret ad m out : Bytes) where

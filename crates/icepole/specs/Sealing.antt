@@ -1,6 +1,6 @@
 -- Sealing and opening (003, 2.6 to 2.11; 01, "Sealing and opening"), over the sizes of a variant. The state is its 160 bytes.
 -- Assumes nothing.
-use mathlib.Core.Bool.{Bool, true, false}
+use mathlib.Core.Bool.{Bool, true, false, cond}
 use mathlib.Core.List.{List, [], _∷_, _++_}
 use Prim.Native.Nat.{ℕ, zero, suc, _+_, _-_, _/_}
 use lib.Bits.{bitXor}
@@ -11,12 +11,12 @@ use Rattle.state_bytes.specs.StateBytes.{permuted, startBytes}
 use Rattle.icepole.specs.declared.Sizes.{Sizes}
 
 -- ---- exclusive or
-infixl 32 _⊕_
--- the first bytes of v, as many as b has, xored with b (of bits, ⊕ is in `bits`)
-abbrev pub _⊕_ : Bytes → Bytes → Bytes
-[] ⊕ b = []
-(x ∷ v) ⊕ [] = []
-(x ∷ v) ⊕ (y ∷ b) = bitXor x y ∷ (v ⊕ b)
+infixl 32 _⊕₈_
+-- the first bytes of v, as many as b has, xored with b (⊕ is of bits, ⊻ of words)
+abbrev pub _⊕₈_ : Bytes → Bytes → Bytes
+[] ⊕₈ b = []
+(x ∷ v) ⊕₈ [] = []
+(x ∷ v) ⊕₈ (y ∷ b) = bitXor x y ∷ (v ⊕₈ b)
 
 -- v with b xored into its first bytes; the bytes after those stay
 abbrev pub xorWith : Bytes → Bytes → Bytes
@@ -54,16 +54,16 @@ module _ (r : ℕ) where
 
   -- the ciphertext of a message: each block is xored with the state, before padding
   abbrev pub encryptBlocks : ℕ → Bytes → Bytes → Bytes
-  encryptBlocks zero v m = v ⊕ m
-  encryptBlocks (suc k) v m = (v ⊕ take r m) ++ encryptBlocks k (absorb v (take r m) 1) (drop r m)
+  encryptBlocks zero v m = v ⊕₈ m
+  encryptBlocks (suc k) v m = (v ⊕₈ take r m) ++ encryptBlocks k (absorb v (take r m) 1) (drop r m)
 
   unfoldable pub encrypt : Bytes → Bytes → Bytes
   encrypt v m = encryptBlocks (blocksBefore r (length m)) v m
 
   -- the message of a ciphertext
   abbrev pub decryptBlocks : ℕ → Bytes → Bytes → Bytes
-  decryptBlocks zero v c = v ⊕ c
-  decryptBlocks (suc k) v c = (v ⊕ take r c) ++ decryptBlocks k (absorb v (v ⊕ take r c) 1) (drop r c)
+  decryptBlocks zero v c = v ⊕₈ c
+  decryptBlocks (suc k) v c = (v ⊕₈ take r c) ++ decryptBlocks k (absorb v (v ⊕₈ take r c) 1) (drop r c)
 
   unfoldable pub decrypt : Bytes → Bytes → Bytes
   decrypt v c = decryptBlocks (blocksBefore r (length c)) v c
@@ -86,20 +86,15 @@ unfoldable pub sealed : Sizes → Bytes → Bytes → Bytes → Bytes → Bytes 
 sealed q key nonce secret ad m =
     let v : Bytes = keyed key nonce in
     let u : Bytes = ready (q .block) v secret ad in
-    (v ⊕ secret) ++ (encrypt (q .block) u m ++ tag (absorbMessage (q .block) u m))
+    (v ⊕₈ secret) ++ (encrypt (q .block) u m ++ tag (absorbMessage (q .block) u m))
 
 -- ---- opening (003, 2.9)
--- a where the test holds, else b
-abbrev pub pick : {A : Type 0} → Bool → A → A → A
-pick true a b = a
-pick false a b = b
-
 -- whether two runs of bytes are the same
 abbrev pub same : Bytes → Bytes → Bool
 same [] [] = true
 same [] (y ∷ ys) = false
 same (x ∷ xs) [] = false
-same (x ∷ xs) (y ∷ ys) = pick (eqb x y) (same xs ys) false
+same (x ∷ xs) (y ∷ ys) = cond (eqb x y) (same xs ys) false
 
 -- the three parts of a sealed message c
 abbrev pub secretPart : Sizes → Bytes → Bytes
@@ -113,7 +108,7 @@ tagPart c = drop (length c - 16) c
 
 -- what c holds, whatever its tag: the secret number, the state after the associated blocks, the message, and the tag that belongs to them
 unfoldable pub secretOf : Sizes → Bytes → Bytes → Bytes → Bytes
-secretOf q key nonce c = keyed key nonce ⊕ secretPart q c
+secretOf q key nonce c = keyed key nonce ⊕₈ secretPart q c
 
 unfoldable pub readyOf : Sizes → Bytes → Bytes → Bytes → Bytes → Bytes
 readyOf q key nonce ad c = ready (q .block) (keyed key nonce) (secretOf q key nonce c) ad

@@ -10,7 +10,7 @@ ghost use Rattle.permutation.specs.State.{setWord};
 ghost use Rattle.bytes_le.specs.Bytes.{putBytes};
 ghost use Rattle.state_bytes.specs.StateBytes.{wordOf, bytesOf, permuted};
 ghost use Rattle.icepole.specs.Variants.{sizes};
-ghost use Rattle.icepole.specs.Sealing.{_⊕_, xorWith, same, keyed, absorb, absorbAssociated, absorbMessage, encrypt, decrypt, ready, sealed, secretOf, readyOf, tag, messagePart, tagPart};
+ghost use Rattle.icepole.specs.Sealing.{_⊕₈_, xorWith, same, keyed, absorb, absorbAssociated, absorbMessage, encrypt, decrypt, ready, sealed, secretOf, readyOf, tag, messagePart, tagPart};
 ghost use Rattle.icepole.specs.Answers.{maxLength, sealNumber, openNumber, sealAnswer, sealOutput, openedAnswer, openAnswer, openOutput, fitsOutput};
 ghost use Rattle.icepole.specs.Bounds.{Bounded};
 
@@ -132,7 +132,7 @@ fn absorb_words(s: State, d: &[u8], at: usize, n: usize, frame: u64) -> State
 pub fn encrypt_words(s: State, m: &[u8], at: usize, n: usize, out: &mut [u8], to: usize) -> State
     requires { ⌜ (n < 20) × (at + 8 * n ≤ length (now m)) × (to + 8 * n ≤ length (now out)) ⌝ }
     ensures { λ r. ⌜ (bytesOf r ≡ absorb (bytesOf s) (take (8 * n) (drop at (now (m .entry)))) 1)
-        × (now (out .exit) ≡ putBytes (now (out .entry)) to (bytesOf s ⊕ take (8 * n) (drop at (now (m .entry))))) ⌝ }
+        × (now (out .exit) ≡ putBytes (now (out .entry)) to (bytesOf s ⊕₈ take (8 * n) (drop at (now (m .entry))))) ⌝ }
 {
     let mut t = s;
     let mut w: usize = 0;
@@ -151,7 +151,7 @@ pub fn encrypt_words(s: State, m: &[u8], at: usize, n: usize, out: &mut [u8], to
 // The state after the message of a block of n words of ciphertext. State xor message is the ciphertext, so its words take the place of the state's.
 fn verify_words(s: State, c: &[u8], at: usize, n: usize) -> State
     requires { ⌜ (n < 20) × (at + 8 * n ≤ length (now c)) ⌝ }
-    ensures { λ r. ⌜ bytesOf r ≡ absorb (bytesOf s) (bytesOf s ⊕ take (8 * n) (drop at (now (c .entry)))) 1 ⌝ }
+    ensures { λ r. ⌜ bytesOf r ≡ absorb (bytesOf s) (bytesOf s ⊕₈ take (8 * n) (drop at (now (c .entry)))) 1 ⌝ }
 {
     let mut t = s;
     let mut w: usize = 0;
@@ -168,8 +168,8 @@ fn verify_words(s: State, c: &[u8], at: usize, n: usize) -> State
 // The state after a block of n words of ciphertext, whose message is put into out from index to on.
 fn decrypt_words(s: State, c: &[u8], at: usize, n: usize, out: &mut [u8], to: usize) -> State
     requires { ⌜ (n < 20) × (at + 8 * n ≤ length (now c)) × (to + 8 * n ≤ length (now out)) ⌝ }
-    ensures { λ r. ⌜ (bytesOf r ≡ absorb (bytesOf s) (bytesOf s ⊕ take (8 * n) (drop at (now (c .entry)))) 1)
-        × (now (out .exit) ≡ putBytes (now (out .entry)) to (bytesOf s ⊕ take (8 * n) (drop at (now (c .entry))))) ⌝ }
+    ensures { λ r. ⌜ (bytesOf r ≡ absorb (bytesOf s) (bytesOf s ⊕₈ take (8 * n) (drop at (now (c .entry)))) 1)
+        × (now (out .exit) ≡ putBytes (now (out .entry)) to (bytesOf s ⊕₈ take (8 * n) (drop at (now (c .entry))))) ⌝ }
 {
     let mut t = s;
     let mut w: usize = 0;
@@ -189,7 +189,7 @@ fn decrypt_words(s: State, c: &[u8], at: usize, n: usize, out: &mut [u8], to: us
 fn encrypt_full(s: State, m: &[u8], at: usize, n: usize, out: &mut [u8], to: usize) -> State
     requires { ⌜ (n < 20) × (at + 8 * n ≤ length (now m)) × (to + 8 * n ≤ length (now out)) ⌝ }
     ensures { λ r. ⌜ (bytesOf r ≡ absorb (bytesOf s) (take (8 * n) (drop at (now (m .entry)))) 1)
-        × (now (out .exit) ≡ putBytes (now (out .entry)) to (bytesOf s ⊕ take (8 * n) (drop at (now (m .entry))))) ⌝ }
+        × (now (out .exit) ≡ putBytes (now (out .entry)) to (bytesOf s ⊕₈ take (8 * n) (drop at (now (m .entry))))) ⌝ }
 {
     if n == 16 {
         return encrypt_words(s, m, at, 16, out, to);
@@ -202,7 +202,7 @@ fn encrypt_full(s: State, m: &[u8], at: usize, n: usize, out: &mut [u8], to: usi
 
 fn verify_full(s: State, c: &[u8], at: usize, n: usize) -> State
     requires { ⌜ (n < 20) × (at + 8 * n ≤ length (now c)) ⌝ }
-    ensures { λ r. ⌜ bytesOf r ≡ absorb (bytesOf s) (bytesOf s ⊕ take (8 * n) (drop at (now (c .entry)))) 1 ⌝ }
+    ensures { λ r. ⌜ bytesOf r ≡ absorb (bytesOf s) (bytesOf s ⊕₈ take (8 * n) (drop at (now (c .entry)))) 1 ⌝ }
 {
     if n == 16 {
         return verify_words(s, c, at, 16);
@@ -215,8 +215,8 @@ fn verify_full(s: State, c: &[u8], at: usize, n: usize) -> State
 
 fn decrypt_full(s: State, c: &[u8], at: usize, n: usize, out: &mut [u8], to: usize) -> State
     requires { ⌜ (n < 20) × (at + 8 * n ≤ length (now c)) × (to + 8 * n ≤ length (now out)) ⌝ }
-    ensures { λ r. ⌜ (bytesOf r ≡ absorb (bytesOf s) (bytesOf s ⊕ take (8 * n) (drop at (now (c .entry)))) 1)
-        × (now (out .exit) ≡ putBytes (now (out .entry)) to (bytesOf s ⊕ take (8 * n) (drop at (now (c .entry))))) ⌝ }
+    ensures { λ r. ⌜ (bytesOf r ≡ absorb (bytesOf s) (bytesOf s ⊕₈ take (8 * n) (drop at (now (c .entry)))) 1)
+        × (now (out .exit) ≡ putBytes (now (out .entry)) to (bytesOf s ⊕₈ take (8 * n) (drop at (now (c .entry))))) ⌝ }
 {
     if n == 16 {
         return decrypt_words(s, c, at, 16, out, to);
@@ -274,7 +274,7 @@ fn encrypt_bytes(
 ) -> State
     requires { ⌜ (at + n ≤ length (now m)) × (n < 160) × (frame < 2) × (to + n ≤ length (now out)) ⌝ }
     ensures { λ r. ⌜ (bytesOf r ≡ absorb v (take n (drop at (now (m .entry)))) frame)
-        × (now (out .exit) ≡ putBytes (now (out .entry)) to (v ⊕ take n (drop at (now (m .entry))))) ⌝ }
+        × (now (out .exit) ≡ putBytes (now (out .entry)) to (v ⊕₈ take n (drop at (now (m .entry))))) ⌝ }
 {
     let mut b = v;
     let mut j: usize = 0;
@@ -290,7 +290,7 @@ fn encrypt_bytes(
 // The state after the message of a block of ciphertext, whose bytes take the place of the state's.
 fn verify_bytes(v: [u8; 160], c: &[u8], at: usize, n: usize, frame: u8) -> State
     requires { ⌜ (at + n ≤ length (now c)) × (n < 160) × (frame < 2) ⌝ }
-    ensures { λ r. ⌜ bytesOf r ≡ absorb v (v ⊕ take n (drop at (now (c .entry)))) frame ⌝ }
+    ensures { λ r. ⌜ bytesOf r ≡ absorb v (v ⊕₈ take n (drop at (now (c .entry)))) frame ⌝ }
 {
     let mut b = v;
     let mut j: usize = 0;
@@ -312,8 +312,8 @@ fn decrypt_bytes(
     to: usize,
 ) -> State
     requires { ⌜ (at + n ≤ length (now c)) × (n < 160) × (frame < 2) × (to + n ≤ length (now out)) ⌝ }
-    ensures { λ r. ⌜ (bytesOf r ≡ absorb v (v ⊕ take n (drop at (now (c .entry)))) frame)
-        × (now (out .exit) ≡ putBytes (now (out .entry)) to (v ⊕ take n (drop at (now (c .entry))))) ⌝ }
+    ensures { λ r. ⌜ (bytesOf r ≡ absorb v (v ⊕₈ take n (drop at (now (c .entry)))) frame)
+        × (now (out .exit) ≡ putBytes (now (out .entry)) to (v ⊕₈ take n (drop at (now (c .entry))))) ⌝ }
 {
     let mut b = v;
     let mut j: usize = 0;
@@ -329,7 +329,7 @@ fn decrypt_bytes(
 // The message of the last block of a ciphertext is put into out from index to on.
 fn decrypt_last(v: [u8; 160], c: &[u8], at: usize, n: usize, out: &mut [u8], to: usize)
     requires { ⌜ (at + n ≤ length (now c)) × (n < 160) × (to + n ≤ length (now out)) ⌝ }
-    ensures { λ _. ⌜ now (out .exit) ≡ putBytes (now (out .entry)) to (v ⊕ take n (drop at (now (c .entry)))) ⌝ }
+    ensures { λ _. ⌜ now (out .exit) ≡ putBytes (now (out .entry)) to (v ⊕₈ take n (drop at (now (c .entry)))) ⌝ }
 {
     let mut j: usize = 0;
     while j < n {
@@ -455,7 +455,7 @@ pub fn seal_ready(
     requires { ⌜ Bounded q × (length (now key) ≡ q .key) × (length (now nonce) ≡ q .nonce) × (length (now secret) ≡ q .secret)
         × (length (now first) + length (now second) ≤ maxLength) × (q .secret ≤ length (now out)) ⌝ }
     ensures { λ r. ⌜ (bytesOf r ≡ ready (q .block) (keyed (now (key .entry)) (now (nonce .entry))) (now (secret .entry)) (now (first .entry) ++ now (second .entry)))
-        × (now (out .exit) ≡ putBytes (now (out .entry)) 0 (keyed (now (key .entry)) (now (nonce .entry)) ⊕ now (secret .entry))) ⌝ }
+        × (now (out .exit) ≡ putBytes (now (out .entry)) 0 (keyed (now (key .entry)) (now (nonce .entry)) ⊕₈ now (secret .entry))) ⌝ }
 {
     let v = state_bytes::to_bytes(keyed_state(key, nonce));
     let s = encrypt_bytes(v, secret, 0, secret.len(), 0, out, 0);

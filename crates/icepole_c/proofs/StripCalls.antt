@@ -2,7 +2,7 @@
 -- Assumes nothing.
 use mathlib.Core.Path.{_≡_, refl, sym, ap, _∙_}
 use mathlib.Core.List.{_++_, append-assoc}
-use mathlib.Core.Bool.{Bool, true, false, not}
+use mathlib.Core.Bool.{Bool, true, false, cond, not}
 use Prim.Native.Nat.{ℕ, zero, suc, _+_, _≤_, _<_}
 use native.Mathlib.Omega.{arith}
 use borrow.Author.Tests.{ne-eqb, le-ltb, lt-ltb}
@@ -10,12 +10,11 @@ use lib.Dec.{eqb, ltb}
 use lib.ListN.{length, length-append}
 use Rattle.bytes_le.specs.Bytes.{Bytes, putBytes, le}
 use Rattle.bytes_le.proofs.Laws.{put-put}
-use Rattle.icepole.specs.Sealing.{pick}
 use Rattle.icepole.specs.Answers.{unless}
 use Rattle.strips.specs.declared.StripState.{StripState}
 use Rattle.strips.specs.declared.StripAnswer.{StripAnswer}
 use Rattle.strips.specs.Answers.{startAnswer, startOutput, startRefusal, stripAnswer, stripOutput, stripRefusal, endAnswer, endOutput, endRefusal}
-use Rattle.icepole_c.specs.Strips.{stripStateBytes, stripStateIn, startCallNumber, startCallOutput, startCallState, stripCallNumber, stripCallOutput, stripCallState, endCallNumber, endCallOutput, endCallState}
+use Rattle.icepole_c.specs.Strips.{stripStateBytes, stripStateIn, startCallRefusal, startCallOutput, startCallState, stripCallRefusal, stripCallOutput, stripCallState, endCallRefusal, endCallOutput, endCallState}
 
 -- the three runs of a state's bytes touch
 pub state-put : (b b₁ b₂ b₃ v : Bytes) (n f i j : ℕ) → 169 ≤ length b → length v ≡ 160 → i ≡ length v → b₁ ≡ putBytes b 0 v
@@ -30,7 +29,7 @@ state-put b b₁ b₂ b₃ v n f i j hb hv ei e₁ ej e₂ e₃ =
 -- ---- strip and end alike: what the call answers on the state in st, and the output it leaves
 module _ (st o : Bytes) (ans : StripAnswer) (o₂ : Bytes) where
   abbrev number : ℕ
-  number = pick (ltb (length st) 169) 5 (ans .refusal)
+  number = cond (ltb (length st) 169) 5 (ans .refusal)
 
   abbrev Leaves : ℕ → Bytes → Bytes → Type 0
   Leaves n s b = (n ≡ number) × (s ≡ unless number st (putBytes st 0 (stripStateBytes (ans .state)))) × (b ≡ unless number o o₂)
@@ -55,39 +54,39 @@ module _ (st o : Bytes) (ans : StripAnswer) (o₂ : Bytes) where
           eo ∙ sym (simp (z, w)),
         )
 
-pub strip-short : (st m o : Bytes) → length st < 169 → (5 ≡ stripCallNumber st m o) × (st ≡ stripCallState st m o) × (o ≡ stripCallOutput st m o)
-unfolding stripCallNumber stripCallState stripCallOutput stripAnswer
+pub strip-short : (st m o : Bytes) → length st < 169 → (5 ≡ stripCallRefusal st m o) × (st ≡ stripCallState st m o) × (o ≡ stripCallOutput st m o)
+unfolding stripCallRefusal stripCallState stripCallOutput stripAnswer
 strip-short st m o = short st o (stripAnswer (stripStateIn st) m o) (stripOutput (stripStateIn st) m o)
 
 -- s is the state that the code read
 module _ (st m o : Bytes) (h : 169 ≤ length st) (s : StripState) (es : s ≡ stripStateIn st) (r : StripAnswer) (er : r ≡ stripAnswer s m o) (o′ : Bytes) (eo : o′ ≡ stripOutput s m o) where
-  pub strip-refused : (r .refusal ≡ 0 → ⊥) → (r .refusal ≡ stripCallNumber st m o) × (st ≡ stripCallState st m o) × (o′ ≡ stripCallOutput st m o)
-  unfolding stripCallNumber stripCallState stripCallOutput stripAnswer stripOutput
+  pub strip-refused : (r .refusal ≡ 0 → ⊥) → (r .refusal ≡ stripCallRefusal st m o) × (st ≡ stripCallState st m o) × (o′ ≡ stripCallOutput st m o)
+  unfolding stripCallRefusal stripCallState stripCallOutput stripAnswer stripOutput
   strip-refused =
       refused st o (stripAnswer (stripStateIn st) m o) (stripOutput (stripStateIn st) m o) h r (er ∙ ap (λ (s : StripState). stripAnswer s m o) es) o′ (eo ∙ ap (λ (s : StripState). stripOutput s m o) es)
       (λ g. simp (ne-eqb (stripRefusal (stripStateIn st) m o) 0 g) refl)
 
   pub strip-done : r .refusal ≡ 0 → (st′ : Bytes) → st′ ≡ putBytes st 0 (stripStateBytes (r .state))
-      → (0 ≡ stripCallNumber st m o) × (st′ ≡ stripCallState st m o) × (o′ ≡ stripCallOutput st m o)
-  unfolding stripCallNumber stripCallState stripCallOutput stripAnswer
+      → (0 ≡ stripCallRefusal st m o) × (st′ ≡ stripCallState st m o) × (o′ ≡ stripCallOutput st m o)
+  unfolding stripCallRefusal stripCallState stripCallOutput stripAnswer
   strip-done =
       done st o (stripAnswer (stripStateIn st) m o) (stripOutput (stripStateIn st) m o) h r (er ∙ ap (λ (s : StripState). stripAnswer s m o) es) o′ (eo ∙ ap (λ (s : StripState). stripOutput s m o) es)
 
-pub end-short : (st o : Bytes) → length st < 169 → (5 ≡ endCallNumber st o) × (st ≡ endCallState st o) × (o ≡ endCallOutput st o)
-unfolding endCallNumber endCallState endCallOutput endAnswer
+pub end-short : (st o : Bytes) → length st < 169 → (5 ≡ endCallRefusal st o) × (st ≡ endCallState st o) × (o ≡ endCallOutput st o)
+unfolding endCallRefusal endCallState endCallOutput endAnswer
 end-short st o = short st o (endAnswer (stripStateIn st) o) (endOutput (stripStateIn st) o)
 
 -- s is the state that the code read
 module _ (st o : Bytes) (h : 169 ≤ length st) (s : StripState) (es : s ≡ stripStateIn st) (r : StripAnswer) (er : r ≡ endAnswer s o) (o′ : Bytes) (eo : o′ ≡ endOutput s o) where
-  pub end-refused : (r .refusal ≡ 0 → ⊥) → (r .refusal ≡ endCallNumber st o) × (st ≡ endCallState st o) × (o′ ≡ endCallOutput st o)
-  unfolding endCallNumber endCallState endCallOutput endAnswer endOutput
+  pub end-refused : (r .refusal ≡ 0 → ⊥) → (r .refusal ≡ endCallRefusal st o) × (st ≡ endCallState st o) × (o′ ≡ endCallOutput st o)
+  unfolding endCallRefusal endCallState endCallOutput endAnswer endOutput
   end-refused =
       refused st o (endAnswer (stripStateIn st) o) (endOutput (stripStateIn st) o) h r (er ∙ ap (λ (s : StripState). endAnswer s o) es) o′ (eo ∙ ap (λ (s : StripState). endOutput s o) es)
       (λ g. simp (ne-eqb (endRefusal (stripStateIn st) o) 0 g) refl)
 
   pub end-done : r .refusal ≡ 0 → (st′ : Bytes) → st′ ≡ putBytes st 0 (stripStateBytes (r .state))
-      → (0 ≡ endCallNumber st o) × (st′ ≡ endCallState st o) × (o′ ≡ endCallOutput st o)
-  unfolding endCallNumber endCallState endCallOutput endAnswer
+      → (0 ≡ endCallRefusal st o) × (st′ ≡ endCallState st o) × (o′ ≡ endCallOutput st o)
+  unfolding endCallRefusal endCallState endCallOutput endAnswer
   end-done =
       done st o (endAnswer (stripStateIn st) o) (endOutput (stripStateIn st) o) h r (er ∙ ap (λ (s : StripState). endAnswer s o) es) o′ (eo ∙ ap (λ (s : StripState). endOutput s o) es)
 
@@ -95,39 +94,39 @@ module _ (st o : Bytes) (h : 169 ≤ length st) (s : StripState) (es : s ≡ str
 pub twice : (i : ℕ) (o o′ : Bytes) → unless i o o′ ≡ unless i o (unless i o o′)
 twice i o o′ = by (eqb i 0)
   where
-    by : (b : Bool) → pick b o′ o ≡ pick b (pick b o′ o) o
+    by : (b : Bool) → cond b o′ o ≡ cond b (cond b o′ o) o
     by true = refl
     by false = refl
 
 -- ---- start
 module _ (k n s a o st : Bytes) where
   pub start-short-refused : length st < 169 → (num : ℕ) → num ≡ startRefusal k n s a o → (num ≡ 0 → ⊥)
-      → (num ≡ startCallNumber k n s a o st) × (o ≡ startCallOutput k n s a o st) × (st ≡ startCallState k n s a o st)
-  unfolding startCallNumber startCallOutput startCallState
+      → (num ≡ startCallRefusal k n s a o st) × (o ≡ startCallOutput k n s a o st) × (st ≡ startCallState k n s a o st)
+  unfolding startCallRefusal startCallOutput startCallState
   start-short-refused h num e f =
       let w = ne-eqb (startRefusal k n s a o) 0 (λ z. f (e ∙ z)) in
       (e ∙ sym (simp w), sym (simp w), sym (simp (lt-ltb (length st) 169 h)))
 
   pub start-short : length st < 169 → (num : ℕ) → num ≡ startRefusal k n s a o → num ≡ 0
-      → (5 ≡ startCallNumber k n s a o st) × (o ≡ startCallOutput k n s a o st) × (st ≡ startCallState k n s a o st)
-  unfolding startCallNumber startCallOutput startCallState
+      → (5 ≡ startCallRefusal k n s a o st) × (o ≡ startCallOutput k n s a o st) × (st ≡ startCallState k n s a o st)
+  unfolding startCallRefusal startCallOutput startCallState
   start-short h num e f =
       let w : startRefusal k n s a o ≡ 0 = sym e ∙ f in
       let z = lt-ltb (length st) 169 h in
       (sym (simp (w, z)), sym (simp (w, z)), sym (simp z))
 
   -- the number is that of start where the state is long enough
-  pub start-number : 169 ≤ length st → startCallNumber k n s a o st ≡ startRefusal k n s a o
-  unfolding startCallNumber
+  pub start-number : 169 ≤ length st → startCallRefusal k n s a o st ≡ startRefusal k n s a o
+  unfolding startCallRefusal
   start-number h = simp (le-ltb (length st) 169 h) (by (startRefusal k n s a o))
     where
-      by : (i : ℕ) → pick (not (eqb i 0)) i 0 ≡ i
+      by : (i : ℕ) → cond (not (eqb i 0)) i 0 ≡ i
       by zero = refl
       by (suc i) = rw (ne-eqb (suc i) 0 (λ z. omega arith)) refl
 
   pub start-called : 169 ≤ length st → (r : StripAnswer) → r ≡ startAnswer k n s a o → (o′ : Bytes) → o′ ≡ startOutput k n s a o
       → (st′ : Bytes) → st′ ≡ putBytes st 0 (stripStateBytes (r .state))
-      → (r .refusal ≡ startCallNumber k n s a o st) × (o′ ≡ startCallOutput k n s a o st) × (st′ ≡ startCallState k n s a o st)
+      → (r .refusal ≡ startCallRefusal k n s a o st) × (o′ ≡ startCallOutput k n s a o st) × (st′ ≡ startCallState k n s a o st)
   unfolding startCallOutput startCallState startAnswer startOutput
   start-called h r er o′ eo st′ es = (
     ap (λ (r : StripAnswer). r .refusal) er ∙ sym (start-number h),

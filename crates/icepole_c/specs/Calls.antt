@@ -17,14 +17,14 @@ module _ (v : Variant) (key nonce ad c out info : Bytes) where
   fitsBoth = leb (8 + sizes v .secret) (length info) && fitsOutput v c out
 
   -- what opening answers: the C call returns its number and puts the rest into info
-  abbrev pub callAnswer : Opened
-  callAnswer = openAnswer v key nonce ad c fitsBoth
+  abbrev pub openCallAnswer : Opened
+  openCallAnswer = openAnswer v key nonce ad c fitsBoth
 
-  abbrev pub callRefusal : ℕ
-  callRefusal = callAnswer .refusal
+  abbrev pub openCallRefusal : ℕ
+  openCallRefusal = openCallAnswer .refusal
 
-  abbrev pub callOutput : Bytes
-  callOutput = openOutput v key nonce ad c fitsBoth out
+  abbrev pub openCallOutput : Bytes
+  openCallOutput = openOutput v key nonce ad c fitsBoth out
 
-  unfoldable pub callInfo : Bytes
-  callInfo = unless callRefusal info (putBytes info 0 (le 8 (callAnswer .length) ++ take (sizes v .secret) (callAnswer .secret)))
+  unfoldable pub openCallInfo : Bytes
+  openCallInfo = unless openCallRefusal info (putBytes info 0 (le 8 (openCallAnswer .length) ++ take (sizes v .secret) (openCallAnswer .secret)))

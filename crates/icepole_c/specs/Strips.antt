@@ -1,12 +1,11 @@
 -- The C calls of strips. The state is lent as 169 bytes: the state's 160, the count (8), and 1 where it is finished, else 0.
 -- Assumes nothing.
-use mathlib.Core.Bool.{Bool, true, false, not}
+use mathlib.Core.Bool.{Bool, true, false, cond, not}
 use mathlib.Core.List.{[], _∷_, _++_}
 use Prim.Native.Nat.{ℕ}
 use lib.Dec.{eqb, ltb}
 use lib.ListN.{length, take, getD}
 use Rattle.bytes_le.specs.Bytes.{Bytes, putBytes, le, leAt}
-use Rattle.icepole.specs.Sealing.{pick}
 use Rattle.icepole.specs.Answers.{_when_, refusal, unless}
 use Rattle.strips.specs.declared.StripState.{StripState}
 use Rattle.strips.specs.Answers.{startRefusal, startAnswer, startOutput, stripAnswer, stripOutput, stripRefusal, endAnswer, endOutput, endRefusal}
@@ -27,36 +26,36 @@ stripStateIn b = record { bytes = take 160 b; count = leAt 8 b 160; finished = n
 
 -- ---- start: its numbers, then 5 where the slice is too short for a state. The state that it returns is put where it is lent, that of a start turned down too
 module _ (key nonce secret ad out state : Bytes) where
-  unfoldable pub startCallNumber : ℕ
-  startCallNumber =
+  unfoldable pub startCallRefusal : ℕ
+  startCallRefusal =
       refusal
       ((startRefusal key nonce secret ad out when not (eqb (startRefusal key nonce secret ad out) 0))
       ∷ (5 when ltb (length state) stripStateLength)
       ∷ [])
 
   unfoldable pub startCallOutput : Bytes
-  startCallOutput = unless startCallNumber out (startOutput key nonce secret ad out)
+  startCallOutput = unless startCallRefusal out (startOutput key nonce secret ad out)
 
   unfoldable pub startCallState : Bytes
-  startCallState = pick (ltb (length state) stripStateLength) state (putBytes state 0 (stripStateBytes (startAnswer key nonce secret ad out .state)))
+  startCallState = cond (ltb (length state) stripStateLength) state (putBytes state 0 (stripStateBytes (startAnswer key nonce secret ad out .state)))
 
 -- ---- strip and end: 5 before all else where the slice is too short, for there is no state to judge
 module _ (state m out : Bytes) where
-  unfoldable pub stripCallNumber : ℕ
-  stripCallNumber = pick (ltb (length state) stripStateLength) 5 (stripRefusal (stripStateIn state) m out)
+  unfoldable pub stripCallRefusal : ℕ
+  stripCallRefusal = cond (ltb (length state) stripStateLength) 5 (stripRefusal (stripStateIn state) m out)
 
   unfoldable pub stripCallOutput : Bytes
-  stripCallOutput = unless stripCallNumber out (stripOutput (stripStateIn state) m out)
+  stripCallOutput = unless stripCallRefusal out (stripOutput (stripStateIn state) m out)
 
   unfoldable pub stripCallState : Bytes
-  stripCallState = unless stripCallNumber state (putBytes state 0 (stripStateBytes (stripAnswer (stripStateIn state) m out .state)))
+  stripCallState = unless stripCallRefusal state (putBytes state 0 (stripStateBytes (stripAnswer (stripStateIn state) m out .state)))
 
 module _ (state out : Bytes) where
-  unfoldable pub endCallNumber : ℕ
-  endCallNumber = pick (ltb (length state) stripStateLength) 5 (endRefusal (stripStateIn state) out)
+  unfoldable pub endCallRefusal : ℕ
+  endCallRefusal = cond (ltb (length state) stripStateLength) 5 (endRefusal (stripStateIn state) out)
 
   unfoldable pub endCallOutput : Bytes
-  endCallOutput = unless endCallNumber out (endOutput (stripStateIn state) out)
+  endCallOutput = unless endCallRefusal out (endOutput (stripStateIn state) out)
 
   unfoldable pub endCallState : Bytes
-  endCallState = unless endCallNumber state (putBytes state 0 (stripStateBytes (endAnswer (stripStateIn state) out .state)))
+  endCallState = unless endCallRefusal state (putBytes state 0 (stripStateBytes (endAnswer (stripStateIn state) out .state)))

@@ -8,8 +8,8 @@ ghost use Prim.Native.Nat.{_≤_};
 ghost use lib.ListN.{length};
 ghost use Rattle.bytes_le.specs.Bytes.{putBytes};
 ghost use Rattle.icepole.specs.Answers.{sealRefusal, sealOutput};
-ghost use Rattle.icepole_c.specs.Calls.{callRefusal, callOutput, callInfo};
-ghost use Rattle.icepole_c.specs.Strips.{flag, stripStateBytes, stripStateIn, startCallNumber, startCallOutput, startCallState, stripCallNumber, stripCallOutput, stripCallState, endCallNumber, endCallOutput, endCallState};
+ghost use Rattle.icepole_c.specs.Calls.{openCallRefusal, openCallOutput, openCallInfo};
+ghost use Rattle.icepole_c.specs.Strips.{flag, stripStateBytes, stripStateIn, startCallRefusal, startCallOutput, startCallState, stripCallRefusal, stripCallOutput, stripCallState, endCallRefusal, endCallOutput, endCallState};
 
 fn seal_call(
     v: Variant,
@@ -37,9 +37,9 @@ fn open_call(
     out: &mut [u8],
     info: &mut [u8],
 ) -> u32
-    ensures { λ r. ⌜ (r ≡ callRefusal v (now (key .entry)) (now (nonce .entry)) (now (first .entry) ++ now (second .entry)) (now (sealed .entry)) (now (out .entry)) (now (info .entry)))
-        × (now (out .exit) ≡ callOutput v (now (key .entry)) (now (nonce .entry)) (now (first .entry) ++ now (second .entry)) (now (sealed .entry)) (now (out .entry)) (now (info .entry)))
-        × (now (info .exit) ≡ callInfo v (now (key .entry)) (now (nonce .entry)) (now (first .entry) ++ now (second .entry)) (now (sealed .entry)) (now (out .entry)) (now (info .entry))) ⌝ }
+    ensures { λ r. ⌜ (r ≡ openCallRefusal v (now (key .entry)) (now (nonce .entry)) (now (first .entry) ++ now (second .entry)) (now (sealed .entry)) (now (out .entry)) (now (info .entry)))
+        × (now (out .exit) ≡ openCallOutput v (now (key .entry)) (now (nonce .entry)) (now (first .entry) ++ now (second .entry)) (now (sealed .entry)) (now (out .entry)) (now (info .entry)))
+        × (now (info .exit) ≡ openCallInfo v (now (key .entry)) (now (nonce .entry)) (now (first .entry) ++ now (second .entry)) (now (sealed .entry)) (now (out .entry)) (now (info .entry))) ⌝ }
 {
     let q = icepole::sizes_of(v);
     let n = q.secret;
@@ -101,9 +101,9 @@ pub extern "C" fn icepole128_open(
     out: &mut [u8],
     info: &mut [u8],
 ) -> u32
-    ensures { λ r. ⌜ (r ≡ callRefusal Variant.Icepole128 (now (key .entry)) (now (nonce .entry)) (now (first .entry) ++ now (second .entry)) (now (sealed .entry)) (now (out .entry)) (now (info .entry)))
-        × (now (out .exit) ≡ callOutput Variant.Icepole128 (now (key .entry)) (now (nonce .entry)) (now (first .entry) ++ now (second .entry)) (now (sealed .entry)) (now (out .entry)) (now (info .entry)))
-        × (now (info .exit) ≡ callInfo Variant.Icepole128 (now (key .entry)) (now (nonce .entry)) (now (first .entry) ++ now (second .entry)) (now (sealed .entry)) (now (out .entry)) (now (info .entry))) ⌝ }
+    ensures { λ r. ⌜ (r ≡ openCallRefusal Variant.Icepole128 (now (key .entry)) (now (nonce .entry)) (now (first .entry) ++ now (second .entry)) (now (sealed .entry)) (now (out .entry)) (now (info .entry)))
+        × (now (out .exit) ≡ openCallOutput Variant.Icepole128 (now (key .entry)) (now (nonce .entry)) (now (first .entry) ++ now (second .entry)) (now (sealed .entry)) (now (out .entry)) (now (info .entry)))
+        × (now (info .exit) ≡ openCallInfo Variant.Icepole128 (now (key .entry)) (now (nonce .entry)) (now (first .entry) ++ now (second .entry)) (now (sealed .entry)) (now (out .entry)) (now (info .entry))) ⌝ }
 {
     open_call(
         Variant::Icepole128,
@@ -152,9 +152,9 @@ pub extern "C" fn icepole128a_open(
     out: &mut [u8],
     info: &mut [u8],
 ) -> u32
-    ensures { λ r. ⌜ (r ≡ callRefusal Variant.Icepole128a (now (key .entry)) (now (nonce .entry)) (now (first .entry) ++ now (second .entry)) (now (sealed .entry)) (now (out .entry)) (now (info .entry)))
-        × (now (out .exit) ≡ callOutput Variant.Icepole128a (now (key .entry)) (now (nonce .entry)) (now (first .entry) ++ now (second .entry)) (now (sealed .entry)) (now (out .entry)) (now (info .entry)))
-        × (now (info .exit) ≡ callInfo Variant.Icepole128a (now (key .entry)) (now (nonce .entry)) (now (first .entry) ++ now (second .entry)) (now (sealed .entry)) (now (out .entry)) (now (info .entry))) ⌝ }
+    ensures { λ r. ⌜ (r ≡ openCallRefusal Variant.Icepole128a (now (key .entry)) (now (nonce .entry)) (now (first .entry) ++ now (second .entry)) (now (sealed .entry)) (now (out .entry)) (now (info .entry)))
+        × (now (out .exit) ≡ openCallOutput Variant.Icepole128a (now (key .entry)) (now (nonce .entry)) (now (first .entry) ++ now (second .entry)) (now (sealed .entry)) (now (out .entry)) (now (info .entry)))
+        × (now (info .exit) ≡ openCallInfo Variant.Icepole128a (now (key .entry)) (now (nonce .entry)) (now (first .entry) ++ now (second .entry)) (now (sealed .entry)) (now (out .entry)) (now (info .entry))) ⌝ }
 {
     open_call(
         Variant::Icepole128a,
@@ -203,9 +203,9 @@ pub extern "C" fn icepole256a_open(
     out: &mut [u8],
     info: &mut [u8],
 ) -> u32
-    ensures { λ r. ⌜ (r ≡ callRefusal Variant.Icepole256a (now (key .entry)) (now (nonce .entry)) (now (first .entry) ++ now (second .entry)) (now (sealed .entry)) (now (out .entry)) (now (info .entry)))
-        × (now (out .exit) ≡ callOutput Variant.Icepole256a (now (key .entry)) (now (nonce .entry)) (now (first .entry) ++ now (second .entry)) (now (sealed .entry)) (now (out .entry)) (now (info .entry)))
-        × (now (info .exit) ≡ callInfo Variant.Icepole256a (now (key .entry)) (now (nonce .entry)) (now (first .entry) ++ now (second .entry)) (now (sealed .entry)) (now (out .entry)) (now (info .entry))) ⌝ }
+    ensures { λ r. ⌜ (r ≡ openCallRefusal Variant.Icepole256a (now (key .entry)) (now (nonce .entry)) (now (first .entry) ++ now (second .entry)) (now (sealed .entry)) (now (out .entry)) (now (info .entry)))
+        × (now (out .exit) ≡ openCallOutput Variant.Icepole256a (now (key .entry)) (now (nonce .entry)) (now (first .entry) ++ now (second .entry)) (now (sealed .entry)) (now (out .entry)) (now (info .entry)))
+        × (now (info .exit) ≡ openCallInfo Variant.Icepole256a (now (key .entry)) (now (nonce .entry)) (now (first .entry) ++ now (second .entry)) (now (sealed .entry)) (now (out .entry)) (now (info .entry))) ⌝ }
 {
     open_call(
         Variant::Icepole256a,
@@ -267,7 +267,7 @@ pub extern "C" fn icepole128_start(
     out: &mut [u8],
     state: &mut [u8],
 ) -> u32
-    ensures { λ r. ⌜ (r ≡ startCallNumber (now (key .entry)) (now (nonce .entry)) (now (secret .entry)) (now (first .entry) ++ now (second .entry)) (now (out .entry)) (now (state .entry)))
+    ensures { λ r. ⌜ (r ≡ startCallRefusal (now (key .entry)) (now (nonce .entry)) (now (secret .entry)) (now (first .entry) ++ now (second .entry)) (now (out .entry)) (now (state .entry)))
         × (now (out .exit) ≡ startCallOutput (now (key .entry)) (now (nonce .entry)) (now (secret .entry)) (now (first .entry) ++ now (second .entry)) (now (out .entry)) (now (state .entry)))
         × (now (state .exit) ≡ startCallState (now (key .entry)) (now (nonce .entry)) (now (secret .entry)) (now (first .entry) ++ now (second .entry)) (now (out .entry)) (now (state .entry))) ⌝ }
 {
@@ -293,7 +293,7 @@ pub extern "C" fn icepole128_start(
 
 #[no_mangle]
 pub extern "C" fn icepole128_strip(state: &mut [u8], message: &[u8], out: &mut [u8]) -> u32
-    ensures { λ r. ⌜ (r ≡ stripCallNumber (now (state .entry)) (now (message .entry)) (now (out .entry)))
+    ensures { λ r. ⌜ (r ≡ stripCallRefusal (now (state .entry)) (now (message .entry)) (now (out .entry)))
         × (now (state .exit) ≡ stripCallState (now (state .entry)) (now (message .entry)) (now (out .entry)))
         × (now (out .exit) ≡ stripCallOutput (now (state .entry)) (now (message .entry)) (now (out .entry))) ⌝ }
 {
@@ -311,7 +311,7 @@ pub extern "C" fn icepole128_strip(state: &mut [u8], message: &[u8], out: &mut [
 
 #[no_mangle]
 pub extern "C" fn icepole128_end(state: &mut [u8], out: &mut [u8]) -> u32
-    ensures { λ r. ⌜ (r ≡ endCallNumber (now (state .entry)) (now (out .entry)))
+    ensures { λ r. ⌜ (r ≡ endCallRefusal (now (state .entry)) (now (out .entry)))
         × (now (state .exit) ≡ endCallState (now (state .entry)) (now (out .entry)))
         × (now (out .exit) ≡ endCallOutput (now (state .entry)) (now (out .entry))) ⌝ }
 {

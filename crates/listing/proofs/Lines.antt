@@ -1,7 +1,7 @@
 -- The lines of a front, entry by entry, and how long they get.
 -- Assumes nothing.
 use mathlib.Core.Path.{_≡_, refl, sym, ap, subst, _∙_}
-use mathlib.Core.Bool.{Bool, true, false}
+use mathlib.Core.Bool.{Bool, true, false, cond}
 use mathlib.Core.List.{[], _++_}
 use Prim.Native.Nat.{ℕ, zero, suc, _+_, _-_, _*_, _≤_, _<_}
 use native.Mathlib.Nat.{zero-add}
@@ -11,7 +11,6 @@ use lib.Dec.{eqb, ltb}
 use lib.ListN.{length, take, length-append}
 use Rattle.bytes_le.specs.Bytes.{Bytes, putBytes}
 use Rattle.bytes_le.proofs.Laws.{take-put}
-use Rattle.icepole.specs.Sealing.{pick}
 use Rattle.burst.specs.declared.Entry.{Entry}
 use Rattle.burst.specs.Editions.{maxEntries}
 use Rattle.reader.specs.declared.Header.{Header}
@@ -19,7 +18,7 @@ use Rattle.reader.specs.Front.{burstNumberIn, droppedIn, entriesAt, entryAt, fr
 use Rattle.reader.proofs.Rules.{front}
 use Rattle.listing.specs.declared.Listed.{Listed}
 use Rattle.listing.specs.Text.{ascii}
-use Rattle.listing.specs.Listing.{textRoom, field, frontLines, headLines, listAnswer, listNumber, listOutput, listing, shotLine, shotLines}
+use Rattle.listing.specs.Listing.{textRoom, field, frontLines, headLines, listAnswer, listRefusal, listOutput, listing, shotLine, shotLines}
 use Rattle.listing.proofs.Puts.{Put, field-length, put-then}
 
 -- ---- lengths
@@ -127,7 +126,7 @@ pub listing-length : (f : Bytes) → length (listing f) ≤ textRoom
 unfolding listing frontLines
 listing-length f = by (ltb 65536 (length f)) (frontRules f) refl
   where
-    by : (a b : Bool) → frontRules f ≡ b → length (pick a (ascii "front too long\n") (pick b (frontLines f) (ascii "front 12\n"))) ≤ textRoom
+    by : (a b : Bool) → frontRules f ≡ b → length (cond a (ascii "front too long\n") (cond b (frontLines f) (ascii "front 12\n"))) ≤ textRoom
     by true b e = omega arith
     by false false e = omega arith
     by false true e =
@@ -140,13 +139,13 @@ listing-length f = by (ltb 65536 (length f)) (frontRules f) refl
 -- ---- the call's answer
 module _ (f o : Bytes) where
   pub list-refused : length o < length (listing f) → (record { refusal = 5; mark = 0; length = 0 } ≡ listAnswer f o) × (o ≡ listOutput f o)
-  unfolding listAnswer listOutput listNumber
+  unfolding listAnswer listOutput listRefusal
   list-refused h = let z = lt-ltb (length o) (length (listing f)) h in (sym (simp z), sym (simp z))
 
   -- the text was put at the front of t, and from there into the output
   pub list-done : (n : ℕ) (t t′ o′ : Bytes) → n ≡ length (listing f) → t′ ≡ putBytes t 0 (listing f) → n ≤ length o → o′ ≡ putBytes o 0 (take n t′)
       → (record { refusal = 0; mark = 0; length = n } ≡ listAnswer f o) × (o′ ≡ listOutput f o)
-  unfolding listAnswer listOutput listNumber
+  unfolding listAnswer listOutput listRefusal
   list-done n t t′ o′ en et h eo =
       let z = le-ltb (length o) (length (listing f)) (omega arith) in
       let e = ap (take n) et ∙ take-put t 0 (listing f) n (en ∙ sym (zero-add _)) (omega arith) in
@@ -154,12 +153,12 @@ module _ (f o : Bytes) where
 
   pub told-length : (r : Listed) → r ≡ listAnswer f o → r .length ≤ textRoom
   unfolding listAnswer
-  told-length r e = subst (λ (n : ℕ). n ≤ textRoom) (sym (ap (λ (r : Listed). r .length) e)) (by (eqb (listNumber f o) 0))
+  told-length r e = subst (λ (n : ℕ). n ≤ textRoom) (sym (ap (λ (r : Listed). r .length) e)) (by (eqb (listRefusal f o) 0))
     where
-      by : (t : Bool) → pick t (length (listing f)) 0 ≤ textRoom
+      by : (t : Bool) → cond t (length (listing f)) 0 ≤ textRoom
       by true = listing-length f
       by false = omega arith
 
-  pub told-number : (r : Listed) → r ≡ listAnswer f o → r .refusal ≡ listNumber f o
+  pub told-number : (r : Listed) → r ≡ listAnswer f o → r .refusal ≡ listRefusal f o
   unfolding listAnswer
   told-number r e = ap (λ (r : Listed). r .refusal) e

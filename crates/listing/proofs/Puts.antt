@@ -2,7 +2,7 @@
 -- Assumes nothing.
 use mathlib.Core.Path.{_≡_, refl, sym, ap, _∙_}
 use mathlib.Core.List.{[], _∷_, _++_, append-assoc}
-use mathlib.Core.Bool.{Bool, true, false}
+use mathlib.Core.Bool.{Bool, true, false, cond}
 use Prim.Native.Nat.{ℕ, zero, suc, _+_, _-_, _/_, _%_, _≤_, _<_}
 use native.Mathlib.Nat.{le-of-suc-le-suc, not-suc-le-zero, zero-add}
 use native.Mathlib.Omega.{arith}
@@ -12,7 +12,6 @@ use lib.ListN.{length, take, drop, set, length-append, length-drop}
 use lib.Seq.{take-all}
 use Rattle.bytes_le.specs.Bytes.{Bytes, putBytes}
 use Rattle.bytes_le.proofs.Laws.{put-put}
-use Rattle.icepole.specs.Sealing.{pick}
 use Rattle.listing.specs.Text.{ascii, decimal, digit, digitsBefore}
 use Rattle.listing.specs.Listing.{field, headLines, shotLine}
 
@@ -27,7 +26,7 @@ module _ (n : ℕ) (b : Bytes) (i rest : ℕ) (hi : 0 < i) (hb : i ≤ length b)
   before : (x : ℕ) → drop (i - 1) (set b (i - 1) x) ≡ x ∷ drop i b
   before x = let z : suc (i - 1) ≡ i = omega arith in drop-set b (i - 1) x (omega arith) ∙ ap (λ (k : ℕ). x ∷ drop k b) z
 
-  once : pick (ltb rest 10) (digit rest ∷ drop i b) (digitsBefore (i - 1) (rest / 10) (digit (rest % 10) ∷ drop i b)) ≡ decimal n
+  once : cond (ltb rest 10) (digit rest ∷ drop i b) (digitsBefore (i - 1) (rest / 10) (digit (rest % 10) ∷ drop i b)) ≡ decimal n
   once = let z : suc (i - 1) ≡ i = omega arith in ap (λ (k : ℕ). digitsBefore k rest (drop i b)) z ∙ e
 
   pub digit-last : rest < 10 → (x : ℕ) → x ≡ digit rest → drop (i - 1) (set b (i - 1) x) ≡ decimal n
@@ -42,7 +41,7 @@ digits-length zero n after = omega arith
 digits-length (suc k) n after = by (ltb n 10) (digits-length k (n / 10) (digit (n % 10) ∷ after))
   where
     by : (t : Bool) → length (digitsBefore k (n / 10) (digit (n % 10) ∷ after)) ≤ k + suc (length after)
-        → length (pick t (digit n ∷ after) (digitsBefore k (n / 10) (digit (n % 10) ∷ after))) ≤ suc k + length after
+        → length (cond t (digit n ∷ after) (digitsBefore k (n / 10) (digit (n % 10) ∷ after))) ≤ suc k + length after
     by true h = omega arith
     by false h = omega arith
 

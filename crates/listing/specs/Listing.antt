@@ -1,11 +1,11 @@
 -- What the lister prints for a file, without a key (01, "Afterwards": "The lister"): the front only is tested.
 -- Assumes nothing.
+use mathlib.Core.Bool.{cond}
 use mathlib.Core.List.{List, [], _∷_, _++_}
 use Prim.Native.Nat.{ℕ, _*_}
 use lib.Dec.{eqb, ltb}
 use lib.ListN.{length}
 use Rattle.bytes_le.specs.Bytes.{Bytes, putBytes}
-use Rattle.icepole.specs.Sealing.{pick}
 use Rattle.icepole.specs.Answers.{_when_, refusal, unless}
 use Rattle.burst.specs.declared.Entry.{Entry}
 use Rattle.burst.specs.Editions.{maxEntries}
@@ -44,8 +44,8 @@ frontLines f =
 -- ---- what is printed
 unfoldable pub listing : Bytes → Bytes
 listing f =
-    pick (ltb maxListed (length f)) (ascii "front too long\n")
-    (pick (frontRules f) (frontLines f) (ascii "front 12\n"))
+    cond (ltb maxListed (length f)) (ascii "front too long\n")
+    (cond (frontRules f) (frontLines f) (ascii "front 12\n"))
 
 -- room for every text: 80 bytes for each shot of the longest burst
 abbrev pub textRoom : ℕ
@@ -54,12 +54,12 @@ textRoom = 80 * maxEntries
 -- ---- the call
 module _ (f out : Bytes) where
   -- 5 where the text does not fit
-  unfoldable pub listNumber : ℕ
-  listNumber = refusal ((5 when ltb (length out) (length (listing f))) ∷ [])
+  unfoldable pub listRefusal : ℕ
+  listRefusal = refusal ((5 when ltb (length out) (length (listing f))) ∷ [])
 
   -- the length of the text
   unfoldable pub listAnswer : Listed
-  listAnswer = record { refusal = listNumber; mark = 0; length = pick (eqb listNumber 0) (length (listing f)) 0 }
+  listAnswer = record { refusal = listRefusal; mark = 0; length = cond (eqb listRefusal 0) (length (listing f)) 0 }
 
   unfoldable pub listOutput : Bytes
-  listOutput = unless listNumber out (putBytes out 0 (listing f))
+  listOutput = unless listRefusal out (putBytes out 0 (listing f))

@@ -1,12 +1,12 @@
 -- Text as bytes, and numbers as text.
 -- Assumes nothing.
+use mathlib.Core.Bool.{cond}
 use mathlib.Core.List as list
 use Prim.Native.Char.{code}
 use Prim.Native.Nat.{ℕ, zero, suc, _+_, _/_, _%_}
 use Prim.Native.String.{String, [], _∷_}
 use lib.Dec.{ltb}
 use Rattle.bytes_le.specs.Bytes.{Bytes}
-use Rattle.icepole.specs.Sealing.{pick}
 
 -- the bytes of a text in ASCII
 abbrev pub ascii : String → Bytes
@@ -19,7 +19,7 @@ digit n = 48 + n
 -- the digits of n, at most k, before `after`: the last one is found first
 abbrev pub digitsBefore : ℕ → ℕ → Bytes → Bytes
 digitsBefore zero n after = after
-digitsBefore (suc k) n after = pick (ltb n 10) (list._∷_ (digit n) after) (digitsBefore k (n / 10) (list._∷_ (digit (n % 10)) after))
+digitsBefore (suc k) n after = cond (ltb n 10) (list._∷_ (digit n) after) (digitsBefore k (n / 10) (list._∷_ (digit (n % 10)) after))
 
 -- a number below 2^64 in decimal digits, with no zero in front
 unfoldable pub decimal : ℕ → Bytes

@@ -1,6 +1,6 @@
 -- The equations of μ, in the order printed (003, Appendix B). `proofs/AppendixB.antt` shows that they agree with the matrix.
 -- Assumes nothing.
-use mathlib.Core.Bool.{Bool, true, false, _&&_}
+use mathlib.Core.Bool.{Bool, true, false, cond, _&&_}
 use mathlib.Core.List.{List, [], _∷_}
 use Prim.Native.Nat.{ℕ}
 use lib.Dec.{eqb}
@@ -48,14 +48,10 @@ equations S =
     ∷ (S′ 3 0 ≔ S 0 0 ⊕ S 1 1 ⊕ S 2 4 ⊕ S 3 0)
     ∷ []
 
-abbrev pick : Bool → Bool → Bool → Bool
-pick true a b = a
-pick false a b = b
-
 -- S'[x][y][z] by the equation that has it on its left; each bit has one
 abbrev pub solved : List Equation → ℕ → ℕ → Bool
 solved [] x y = false
-solved (e ∷ es) x y = pick (eqb (e .target .x) x && eqb (e .target .y) y) (e .value) (solved es x y)
+solved (e ∷ es) x y = cond (eqb (e .target .x) x && eqb (e .target .y) y) (e .value) (solved es x y)
 
 -- for all z: S := S'
 unfoldable pub appendixB : State → State

@@ -1,6 +1,6 @@
 -- The reader's answers from plain facts, and what number 0 tells.
 -- Assumes nothing.
-use mathlib.Core.Bool.{Bool, true, false, not}
+use mathlib.Core.Bool.{Bool, true, false, cond, not}
 use mathlib.Core.List.{[]}
 use mathlib.Core.Path.{_≡_, refl, sym, ap, ap₂, _∙_}
 use Prim.Native.Nat.{ℕ, zero, suc, _≤_, _<_}
@@ -9,7 +9,6 @@ use borrow.Author.Tests.{le-leb, lt-leb, eq-eqb, ne-eqb, lt-ltb, le-ltb, leb-fal
 use lib.Dec.{eqb, leb, ltb}
 use lib.ListN.{length}
 use Rattle.bytes_le.specs.Bytes.{Bytes, putBytes}
-use Rattle.icepole.specs.Sealing.{pick}
 use Rattle.icepole.proofs.Numbers.{passed}
 use Rattle.reader.specs.declared.Checked.{Checked}
 use Rattle.reader.specs.declared.Fetched.{Fetched}
@@ -19,7 +18,7 @@ use Rattle.reader.specs.declared.Verdict.{Verdict}
 use Rattle.reader.specs.declared.Verdict.the-variants.{Agree, Differs}
 use Rattle.reader.specs.Verdicts.{verdictNumber, verdictMark}
 use Rattle.reader.specs.Front.{headerIn, keptIn, indexOffsetIn, entryAt, positionOf, frontRules}
-use Rattle.reader.specs.Reader.{closingPart, recordPart, recordParts, agrees, markIn, bodyIn, sealedIn, verdictOn, verdict, notChecked, notFetched, checkNumber, checkMark, checkAnswer, recordNumber, locateAnswer, recordOffset, recordBytesIn, fetchNumber, fetchAnswer, fetchOutput}
+use Rattle.reader.specs.Reader.{closingPart, recordPart, recordParts, agrees, markIn, bodyIn, sealedIn, verdictOn, verdict, notChecked, notFetched, checkRefusal, checkMark, checkAnswer, recordRefusal, locateAnswer, recordOffset, recordBytesIn, fetchRefusal, fetchAnswer, fetchOutput}
 use Rattle.reader.proofs.Rules.{Front, front, InRange, in-range-at}
 use Rattle.reader.proofs.Parts.{first-agrees, all-agree}
 
@@ -30,25 +29,25 @@ module _ (key f : Bytes) where
 
   -- a number with its mark
   abbrev Refuses : ℕ → ℕ → Type 0
-  Refuses num mark = (checkNumber key f ≡ num) × (checkMark key f ≡ mark)
+  Refuses num mark = (checkRefusal key f ≡ num) × (checkMark key f ≡ mark)
 
   pub check-not : (num mark : ℕ) → (num ≡ 0 → ⊥) → Refuses num mark → notChecked num mark ≡ checkAnswer key f
   unfolding checkAnswer
   check-not num mark h r = sym (simp (r .0, r .1, ne-eqb num 0 h))
 
   pub check-1 : (length key ≡ 16 → ⊥) → notChecked 1 0 ≡ checkAnswer key f
-  unfolding checkNumber checkMark
+  unfolding checkRefusal checkMark
   check-1 h = check-not 1 0 (λ e. omega arith) (simp (ne-eqb (length key) 16 h), simp (ne-eqb (length key) 16 h))
 
   module _ (hk : length key ≡ 16) where
     pub check-12 : frontRules f ≡ false → notChecked 12 0 ≡ checkAnswer key f
-    unfolding checkNumber checkMark
+    unfolding checkRefusal checkMark
     check-12 h = check-not 12 0 (λ e. omega arith) (simp (eq-eqb (length key) 16 hk, h), simp (eq-eqb (length key) 16 hk, h))
 
     module _ (hf : frontRules f ≡ true) where
       -- a verdict with a number
       by-verdict : (v : Verdict) → verdict key f ≡ v → (verdictNumber v ≡ 0 → ⊥) → notChecked (verdictNumber v) (verdictMark v) ≡ checkAnswer key f
-      unfolding checkNumber checkMark
+      unfolding checkRefusal checkMark
       by-verdict Agree d h = absurd (h refl)
       by-verdict (Differs shot) d h =
           check-not 7 (shot .0) h (simp (eq-eqb (length key) 16 hk, hf, d), simp (eq-eqb (length key) 16 hk, hf, d))
@@ -66,8 +65,8 @@ module _ (key f : Bytes) where
         check-record v h n = by-verdict v (all-records ∙ sym h) n
 
         module _ (hr : Records ≡ Agree) where
-          pub check-zero : checkNumber key f ≡ 0
-          unfolding checkNumber
+          pub check-zero : checkRefusal key f ≡ 0
+          unfolding checkRefusal
           check-zero = simp (eq-eqb (length key) 16 hk, hf, all-records, hr)
 
           pub check-0 : (h : Header) → h ≡ headerIn f → (site : Bytes) → site ≡ markIn key f (closingPart f)
@@ -79,7 +78,7 @@ module _ (key f : Bytes) where
 
 -- what check answers, field by field
 module _ (key f : Bytes) (c : Checked) (is : c ≡ checkAnswer key f) where
-  pub checked-number : c .refusal ≡ checkNumber key f
+  pub checked-number : c .refusal ≡ checkRefusal key f
   unfolding checkAnswer
   checked-number = ap (λ (x : Checked). x .refusal) is
 
@@ -88,7 +87,7 @@ module _ (key f : Bytes) (c : Checked) (is : c ≡ checkAnswer key f) where
   checked-mark = ap (λ (x : Checked). x .mark) is
 
   module _ (z : c .refusal ≡ 0) where
-    zero-is : checkNumber key f ≡ 0
+    zero-is : checkRefusal key f ≡ 0
     zero-is = sym checked-number ∙ z
 
     pub checked-kept : c .kept .0 ≡ keptIn f
@@ -103,7 +102,7 @@ pub record Accepted (key f : Bytes) : Type 0 where
   pub records : verdictOn key f (recordParts (keptIn f) (indexOffsetIn f) f) ≡ Agree
 
 -- a number that is not refused
-first-passed : (n rest : ℕ) → pick (not (eqb n 0)) n rest ≡ 0 → (n ≡ 0) × (rest ≡ 0)
+first-passed : (n rest : ℕ) → cond (not (eqb n 0)) n rest ≡ 0 → (n ≡ 0) × (rest ≡ 0)
 first-passed zero rest h = (refl, h)
 first-passed (suc n) rest h = let z : suc n ≡ 0 = simp (ne-eqb (suc n) 0 (λ i. omega arith)) at h in absurd (omega arith)
 
@@ -111,8 +110,8 @@ pub agree : (v : Verdict) → verdictNumber v ≡ 0 → v ≡ Agree
 agree Agree h = refl
 agree (Differs shot) h = absurd (omega arith)
 
-pub accepted : (key f : Bytes) → checkNumber key f ≡ 0 → Accepted key f
-unfolding checkNumber verdict
+pub accepted : (key f : Bytes) → checkRefusal key f ≡ 0 → Accepted key f
+unfolding checkRefusal verdict
 accepted key f h =
     let p₁ = passed (not (eqb (length key) 16)) _ _ h in
     let p₁₂ = passed (not (frontRules f)) _ _ (p₁ .1) in
@@ -122,17 +121,17 @@ accepted key f h =
 
 -- ---- a place
 pub record Found (key f : Bytes) (place : ℕ) : Type 0 where
-  pub zero : checkNumber key f ≡ 0
+  pub zero : checkRefusal key f ≡ 0
   pub accepted : Accepted key f
   pub below : place < keptIn f
   pub range : InRange f (positionOf f place) (indexOffsetIn f)
   pub agrees : agrees key f (recordPart f (positionOf f place)) ≡ true
 
 module _ (key f : Bytes) (place : ℕ) where
-  pub found : recordNumber key f place ≡ 0 → Found key f place
-  unfolding recordNumber
+  pub found : recordRefusal key f place ≡ 0 → Found key f place
+  unfolding recordRefusal
   found h =
-      let p = first-passed (checkNumber key f) _ h in
+      let p = first-passed (checkRefusal key f) _ h in
       let p₁₃ = passed (leb (keptIn f) place) _ _ (p .1) in
       let a = accepted key f (p .0) in
       let b : place < keptIn f = leb-false _ _ (p₁₃ .0) in
@@ -145,22 +144,22 @@ module _ (key f : Bytes) (place : ℕ) where
       }
 
   -- locate
-  pub locate-check : (num mark : ℕ) → num ≡ checkNumber key f → mark ≡ checkMark key f → (num ≡ 0 → ⊥)
+  pub locate-check : (num mark : ℕ) → num ≡ checkRefusal key f → mark ≡ checkMark key f → (num ≡ 0 → ⊥)
       → record { refusal = num; mark = mark; position = 0 } ≡ locateAnswer key f place
-  unfolding locateAnswer recordNumber
+  unfolding locateAnswer recordRefusal
   locate-check num mark e m h = sym (simp (sym e, sym m, ne-eqb num 0 h))
 
-  module _ (hz : checkNumber key f ≡ 0) where
+  module _ (hz : checkRefusal key f ≡ 0) where
     mark-0 : checkMark key f ≡ 0
     unfolding checkMark
     mark-0 = simp hz
 
     pub locate-13 : keptIn f ≤ place → record { refusal = 13; mark = 0; position = 0 } ≡ locateAnswer key f place
-    unfolding locateAnswer recordNumber
+    unfolding locateAnswer recordRefusal
     locate-13 h = sym (simp (hz, mark-0, le-leb (keptIn f) place h))
 
-    pub record-zero : place < keptIn f → recordNumber key f place ≡ 0
-    unfolding recordNumber
+    pub record-zero : place < keptIn f → recordRefusal key f place ≡ 0
+    unfolding recordRefusal
     record-zero h = simp (hz, lt-leb (keptIn f) place h)
 
     pub locate-0 : place < keptIn f → (position : ℕ) → position ≡ positionOf f place
@@ -172,7 +171,7 @@ module _ (key f : Bytes) (place : ℕ) where
 
   -- what locate answers, field by field
   module _ (l : Located) (is : l ≡ locateAnswer key f place) where
-    pub located-number : l .refusal ≡ recordNumber key f place
+    pub located-number : l .refusal ≡ recordRefusal key f place
     unfolding locateAnswer
     located-number = ap (λ (x : Located). x .refusal) is
 
@@ -181,7 +180,7 @@ module _ (key f : Bytes) (place : ℕ) where
     located-mark = ap (λ (x : Located). x .mark) is
 
     module _ (z : l .refusal ≡ 0) where
-      none-refused : recordNumber key f place ≡ 0
+      none-refused : recordRefusal key f place ≡ 0
       none-refused = sym located-number ∙ z
 
       pub located-found : Found key f place
@@ -192,48 +191,48 @@ module _ (key f : Bytes) (place : ℕ) where
       located-position = ap (λ (x : Located). x .position) is ∙ simp none-refused
 
   -- record
-  pub record-refused : (recordNumber key f place ≡ 0 → ⊥) → ([] ≡ recordBytesIn key f place) × (0 ≡ recordOffset key f place)
+  pub record-refused : (recordRefusal key f place ≡ 0 → ⊥) → ([] ≡ recordBytesIn key f place) × (0 ≡ recordOffset key f place)
   unfolding recordBytesIn recordOffset
-  record-refused h = (sym (simp (ne-eqb (recordNumber key f place) 0 h)), sym (simp (ne-eqb (recordNumber key f place) 0 h)))
+  record-refused h = (sym (simp (ne-eqb (recordRefusal key f place) 0 h)), sym (simp (ne-eqb (recordRefusal key f place) 0 h)))
 
-  pub record-done : recordNumber key f place ≡ 0
+  pub record-done : recordRefusal key f place ≡ 0
       → (sealedIn key f (recordPart f (positionOf f place)) ≡ recordBytesIn key f place) × (entryAt f (positionOf f place) .offset ≡ recordOffset key f place)
   unfolding recordBytesIn recordOffset
   record-done h = (sym (simp h), sym (simp h))
 
   -- fetch
   module _ (out : Bytes) where
-    beyond : (a b : Bool) (n rest num : ℕ) → pick a n (pick b 13 0) ≡ suc num → pick a n (pick b 13 rest) ≡ suc num
+    beyond : (a b : Bool) (n rest num : ℕ) → cond a n (cond b 13 0) ≡ suc num → cond a n (cond b 13 rest) ≡ suc num
     beyond true b n rest num h = h
     beyond false true n rest num h = h
     beyond false false n rest num h = absurd (omega arith)
 
-    pub fetch-stands : (num : ℕ) → recordNumber key f place ≡ suc num → fetchNumber key f place out ≡ suc num
-    unfolding recordNumber fetchNumber
-    fetch-stands num h = beyond (not (eqb (checkNumber key f) 0)) (leb (keptIn f) place) (checkNumber key f) _ num h
+    pub fetch-stands : (num : ℕ) → recordRefusal key f place ≡ suc num → fetchRefusal key f place out ≡ suc num
+    unfolding recordRefusal fetchRefusal
+    fetch-stands num h = beyond (not (eqb (checkRefusal key f) 0)) (leb (keptIn f) place) (checkRefusal key f) _ num h
 
-    pub fetch-not : (num mark : ℕ) → fetchNumber key f place out ≡ suc num → checkMark key f ≡ mark
+    pub fetch-not : (num mark : ℕ) → fetchRefusal key f place out ≡ suc num → checkMark key f ≡ mark
         → (notFetched (suc num) mark ≡ fetchAnswer key f place out) × (out ≡ fetchOutput key f place out)
     unfolding fetchAnswer fetchOutput
     fetch-not num mark e m =
         let w = ne-eqb (suc num) 0 (λ i. omega arith) in
         (sym (simp (e, m, w)), sym (simp (e, w)))
 
-    pub fetch-refused : (num mark : ℕ) → num ≡ recordNumber key f place → mark ≡ checkMark key f → (num ≡ 0 → ⊥)
+    pub fetch-refused : (num mark : ℕ) → num ≡ recordRefusal key f place → mark ≡ checkMark key f → (num ≡ 0 → ⊥)
         → (notFetched num mark ≡ fetchAnswer key f place out) × (out ≡ fetchOutput key f place out)
     fetch-refused zero mark e m h = absurd (h refl)
     fetch-refused (suc num) mark e m h = fetch-not num mark (fetch-stands num (sym e)) (sym m)
 
     module _ (w : Found key f place) where
-      decides : (b : Bool) → ltb (length out) (entryAt f (positionOf f place) .length) ≡ b → fetchNumber key f place out ≡ pick b 5 0
-      unfolding fetchNumber
+      decides : (b : Bool) → ltb (length out) (entryAt f (positionOf f place) .length) ≡ b → fetchRefusal key f place out ≡ cond b 5 0
+      unfolding fetchRefusal
       decides b h = simp (w .zero, lt-leb (keptIn f) place (w .below), h)
 
       pub fetch-5 : length out < entryAt f (positionOf f place) .length
           → (notFetched 5 0 ≡ fetchAnswer key f place out) × (out ≡ fetchOutput key f place out)
       fetch-5 h = fetch-not 4 0 (decides true (lt-ltb (length out) (entryAt f (positionOf f place) .length) h)) (mark-0 (w .zero))
 
-      pub fetch-zero : entryAt f (positionOf f place) .length ≤ length out → fetchNumber key f place out ≡ 0
+      pub fetch-zero : entryAt f (positionOf f place) .length ≤ length out → fetchRefusal key f place out ≡ 0
       fetch-zero h = decides false (le-ltb (length out) (entryAt f (positionOf f place) .length) h)
 
       pub fetch-0 : entryAt f (positionOf f place) .length ≤ length out

@@ -1,12 +1,11 @@
 -- The verdict on sealed parts, turn by turn, and at a place.
 -- Assumes nothing.
-use mathlib.Core.Bool.{Bool, true, false}
+use mathlib.Core.Bool.{Bool, true, false, cond}
 use mathlib.Core.List.{List, _∷_}
 use mathlib.Core.Path.{_≡_, refl, sym, ap, _∙_}
 use Prim.Native.Nat.{ℕ, zero, suc, _+_, _*_, _<_}
 use native.Mathlib.Omega.{arith}
 use Rattle.bytes_le.specs.Bytes.{Bytes}
-use Rattle.icepole.specs.Sealing.{pick}
 use Rattle.burst.specs.declared.Shot.{Shot}
 use Rattle.reader.specs.declared.Verdict.{Verdict}
 use Rattle.reader.specs.declared.Verdict.the-variants.{Agree, Differs}
@@ -27,7 +26,7 @@ module _ (key f : Bytes) where
     unfolding verdictOn recordParts
     parts-differ h = simp h
 
-  passed : (b : Bool) (v : Verdict) (s : Shot) → pick b v (Differs s) ≡ Agree → (b ≡ true) × (v ≡ Agree)
+  passed : (b : Bool) (v : Verdict) (s : Shot) → cond b v (Differs s) ≡ Agree → (b ≡ true) × (v ≡ Agree)
   passed true v s h = (refl, h)
   passed false v s h = let z : _≡_ {A = ℕ} 0 1 = cc in absurd (omega arith)
 

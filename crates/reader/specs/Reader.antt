@@ -1,13 +1,12 @@
 -- The reader's calls (01, "Reader"): what check, fetch and record answer and leave, for good and bad calls.
 -- Assumes nothing.
-use mathlib.Core.Bool.{Bool, not}
+use mathlib.Core.Bool.{Bool, cond, not}
 use mathlib.Core.List.{List, [], _∷_, _++_}
 use Prim.Native.Nat.{ℕ, zero, suc, _+_, _*_}
 use lib.Dec.{eqb, leb, ltb}
 use lib.ListN.{length, take, drop, replicate}
 use Rattle.bytes_le.specs.Bytes.{Bytes, putBytes}
 use Rattle.icepole.specs.declared.Opened.{Opened}
-use Rattle.icepole.specs.Sealing.{pick}
 use Rattle.icepole.specs.Answers.{refusal, _when_, unless}
 use Rattle.burst.specs.Parts.{sealLength, partAgrees, partMark, partBody, partAnswer}
 use Rattle.burst.specs.Layout.{entryLength, closingOffset}
@@ -70,7 +69,7 @@ module _ (key f : Bytes) where
   -- the first part whose tag differs decides
   unfoldable pub verdictOn : List Part → Verdict
   verdictOn [] = Agree
-  verdictOn (p ∷ ps) = pick (agrees p) (verdictOn ps) (Differs (record { 0 = p .shot }))
+  verdictOn (p ∷ ps) = cond (agrees p) (verdictOn ps) (Differs (record { 0 = p .shot }))
 
   -- the closing seal, then the records in order
   unfoldable pub verdict : Verdict
@@ -78,10 +77,10 @@ module _ (key f : Bytes) where
 
 -- with a refusal go zeros
 abbrev pub given : ℕ → ℕ → ℕ
-given num x = pick (eqb num 0) x 0
+given num x = cond (eqb num 0) x 0
 
 abbrev pub given16 : ℕ → Bytes → Bytes
-given16 num bytes = pick (eqb num 0) bytes (replicate 16 0)
+given16 num bytes = cond (eqb num 0) bytes (replicate 16 0)
 
 -- ---- what a refused call answers
 abbrev pub notChecked : ℕ → ℕ → Checked
@@ -101,8 +100,8 @@ notFetched num mark = record { refusal = num; mark = mark; shot = record { 0 = 0
 -- ---- check
 module _ (key f : Bytes) where
   -- the verdict's number is 7 where a tag differs
-  unfoldable pub checkNumber : ℕ
-  checkNumber =
+  unfoldable pub checkRefusal : ℕ
+  checkRefusal =
       refusal
       ((1 when not (eqb (length key) 16))
       ∷ (12 when not (frontRules f))
@@ -111,56 +110,56 @@ module _ (key f : Bytes) where
 
   -- 0 except under 7: then the verdict's
   unfoldable pub checkMark : ℕ
-  checkMark = pick (eqb checkNumber 7) (verdictMark (verdict key f)) 0
+  checkMark = cond (eqb checkRefusal 7) (verdictMark (verdict key f)) 0
 
   unfoldable pub checkAnswer : Checked
   checkAnswer = record {
-    refusal = checkNumber;
+    refusal = checkRefusal;
     mark = checkMark;
-    «burst_number» = given checkNumber (burstNumberIn f);
-    «site_mark» = given16 checkNumber (markIn key f (closingPart f));
-    taken = record { 0 = given checkNumber (takenIn f) };
-    kept = record { 0 = given checkNumber (keptIn f) };
-    dropped = given checkNumber (droppedIn f);
+    «burst_number» = given checkRefusal (burstNumberIn f);
+    «site_mark» = given16 checkRefusal (markIn key f (closingPart f));
+    taken = record { 0 = given checkRefusal (takenIn f) };
+    kept = record { 0 = given checkRefusal (keptIn f) };
+    dropped = given checkRefusal (droppedIn f);
   }
 
 -- ---- record and fetch, by place
 module _ (key f : Bytes) (place : ℕ) where
-  unfoldable pub recordNumber : ℕ
-  recordNumber = refusal ((checkNumber key f when not (eqb (checkNumber key f) 0)) ∷ (13 when leb (keptIn f) place) ∷ [])
+  unfoldable pub recordRefusal : ℕ
+  recordRefusal = refusal ((checkRefusal key f when not (eqb (checkRefusal key f) 0)) ∷ (13 when leb (keptIn f) place) ∷ [])
 
   -- where the entry of the place stands
   unfoldable pub locateAnswer : Located
   locateAnswer = record {
-    refusal = recordNumber;
+    refusal = recordRefusal;
     mark = checkMark key f;
-    position = given recordNumber (positionOf f place);
+    position = given recordRefusal (positionOf f place);
   }
 
   -- the sealed record as that part of the file, empty where the call is refused, and its offset
   unfoldable pub recordOffset : ℕ
-  recordOffset = given recordNumber (entryAt f (positionOf f place) .offset)
+  recordOffset = given recordRefusal (entryAt f (positionOf f place) .offset)
 
   unfoldable pub recordBytesIn : Bytes
-  recordBytesIn = pick (eqb recordNumber 0) (sealedIn key f (recordPart f (positionOf f place))) []
+  recordBytesIn = cond (eqb recordRefusal 0) (sealedIn key f (recordPart f (positionOf f place))) []
 
   module _ (out : Bytes) where
-    unfoldable pub fetchNumber : ℕ
-    fetchNumber =
+    unfoldable pub fetchRefusal : ℕ
+    fetchRefusal =
         refusal
-        ((checkNumber key f when not (eqb (checkNumber key f) 0))
+        ((checkRefusal key f when not (eqb (checkRefusal key f) 0))
         ∷ (13 when leb (keptIn f) place)
         ∷ (5 when ltb (length out) (entryAt f (positionOf f place) .length))
         ∷ [])
 
     unfoldable pub fetchAnswer : Fetched
     fetchAnswer = record {
-      refusal = fetchNumber;
+      refusal = fetchRefusal;
       mark = checkMark key f;
-      shot = record { 0 = given fetchNumber (entryAt f (positionOf f place) .shot .0) };
-      stamp = given16 fetchNumber (markIn key f (recordPart f (positionOf f place)));
-      length = given fetchNumber (entryAt f (positionOf f place) .length);
+      shot = record { 0 = given fetchRefusal (entryAt f (positionOf f place) .shot .0) };
+      stamp = given16 fetchRefusal (markIn key f (recordPart f (positionOf f place)));
+      length = given fetchRefusal (entryAt f (positionOf f place) .length);
     }
 
     unfoldable pub fetchOutput : Bytes
-    fetchOutput = unless fetchNumber out (putBytes out 0 (bodyIn key f (recordPart f (positionOf f place))))
+    fetchOutput = unless fetchRefusal out (putBytes out 0 (bodyIn key f (recordPart f (positionOf f place))))

@@ -23,7 +23,7 @@ ghost use Rattle.burst.specs.Parts.{sealLength};
 ghost use Rattle.burst.specs.Layout.{entryLength, maxPicture};
 ghost use Rattle.burst.specs.Index.{indexRules};
 ghost use Rattle.reader.specs.Front.{headerIn, keptIn, indexOffsetIn, entryAt, entriesAt, editionIn, nameIn, restRules, frontRules};
-ghost use Rattle.reader.specs.Reader.{closingPart, recordPart, recordParts, agrees, answerIn, markIn, bodyIn, verdictOn, notChecked, notFetched, checkMark, checkAnswer, locateAnswer, recordNumber, recordOffset, recordBytesIn, fetchAnswer, fetchOutput};
+ghost use Rattle.reader.specs.Reader.{closingPart, recordPart, recordParts, agrees, answerIn, markIn, bodyIn, verdictOn, notChecked, notFetched, checkMark, checkAnswer, locateAnswer, recordRefusal, recordOffset, recordBytesIn, fetchAnswer, fetchOutput};
 ghost use Rattle.reader.specs.Verdicts.{verdictNumber, verdictMark};
 
 // What check answers: a refusal number with its mark, or what the file says.
@@ -444,7 +444,7 @@ pub fn record<'a>(
     ensures { λ r. ⌜
         (now r ≡ recordBytesIn (now (key .entry)) (now (f .entry)) (place .0)) ×
         (r .ptr .0 ≡ f .entry .ptr .0) × (r .ptr .1 ≡ f .entry .ptr .1 + recordOffset (now (key .entry)) (now (f .entry)) (place .0)) ×
-        (now (refusal .exit) ≡ recordNumber (now (key .entry)) (now (f .entry)) (place .0)) ×
+        (now (refusal .exit) ≡ recordRefusal (now (key .entry)) (now (f .entry)) (place .0)) ×
         (now (mark .exit) ≡ checkMark (now (key .entry)) (now (f .entry))) ⌝ }
 {
     let l = locate(key, f, place);

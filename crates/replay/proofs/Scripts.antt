@@ -1,6 +1,6 @@
 -- Scripts, call by call: what stands first, and what a turn of `run` does.
 -- Assumes nothing.
-use mathlib.Core.Bool.{Bool, true, false}
+use mathlib.Core.Bool.{Bool, true, false, cond}
 use mathlib.Core.List.{List, [], _∷_, _++_, append-assoc}
 use mathlib.Core.Logic.{_⊎_, inl, inr}
 use mathlib.Core.Option.{Option, some, none, Option·some-injective}
@@ -14,7 +14,6 @@ use lib.ListN.{length, take, drop, length-append, length-drop}
 use lib.Seq.{drop-drop}
 use Rattle.bytes_le.specs.Bytes.{Bytes, putBytes, le, unle, leAt}
 use Rattle.bytes_le.proofs.Laws.{put-put}
-use Rattle.icepole.specs.Sealing.{pick}
 use Rattle.burst.specs.declared.Recorder.{Recorder}
 use Rattle.burst.specs.declared.ShotAnswer.{ShotAnswer}
 use Rattle.burst.specs.declared.Closed.{Closed}
@@ -57,15 +56,15 @@ module _ (s : Bytes) where
       unfolding firstCall
       first-keep h = simp (ne-eqb (length s) 0 hs, h₂, le-ltb (length s) (keepLength s) h)
 
-not-none : (b : Bool) (o : Option (Call × ℕ)) (x : Call × ℕ) → pick b none o ≡ some x → (b ≡ false) × (o ≡ some x)
+not-none : (b : Bool) (o : Option (Call × ℕ)) (x : Call × ℕ) → cond b none o ≡ some x → (b ≡ false) × (o ≡ some x)
 not-none true o x h = let z : _≡_ {A = ℕ} 0 1 = cc in absurd (omega arith)
 not-none false o x h = (refl, h)
 
-or-none : (b : Bool) (o : Option (Call × ℕ)) (x : Call × ℕ) → pick b o none ≡ some x → o ≡ some x
+or-none : (b : Bool) (o : Option (Call × ℕ)) (x : Call × ℕ) → cond b o none ≡ some x → o ≡ some x
 or-none true o x h = h
 or-none false o x h = let z : _≡_ {A = ℕ} 0 1 = cc in absurd (omega arith)
 
-this-or : (b : Bool) (y : Call × ℕ) (o : Option (Call × ℕ)) (x : Call × ℕ) → pick b (some y) o ≡ some x → (y ≡ x) ⊎ (o ≡ some x)
+this-or : (b : Bool) (y : Call × ℕ) (o : Option (Call × ℕ)) (x : Call × ℕ) → cond b (some y) o ≡ some x → (y ≡ x) ⊎ (o ≡ some x)
 this-or true y o x h = inl (Option·some-injective _ _ h)
 this-or false y o x h = inr h
 
@@ -78,20 +77,20 @@ first-fits s x h =
     second l (this-or (eqb (leAt 1 s 0) 0) (dropShot byValue, 1) _ x (h₁ .1))
   where
     keep : Option (Call × ℕ)
-    keep = pick (ltb (length s) (keepLength s)) none (some (keepIn s, keepLength s))
+    keep = cond (ltb (length s) (keepLength s)) none (some (keepIn s, keepLength s))
 
-    fourth : pick (eqb (leAt 1 s 0) 2) keep none ≡ some x → x .1 ≤ length s
+    fourth : cond (eqb (leAt 1 s 0) 2) keep none ≡ some x → x .1 ≤ length s
     fourth g =
         let g₁ = not-none (ltb (length s) (keepLength s)) _ x (or-none (eqb (leAt 1 s 0) 2) _ x g) in
         let e : keepLength s ≡ x .1 = ap (λ (y : Call × ℕ). y .1) (Option·some-injective _ _ (g₁ .1)) in
         let m : keepLength s ≤ length s = ltb-false _ _ (g₁ .0) in
         omega arith
 
-    third : (length s ≡ 0 → ⊥) → (_≡_ {A = Call × ℕ} (closeBurst, 1) x) ⊎ (pick (eqb (leAt 1 s 0) 2) keep none ≡ some x) → x .1 ≤ length s
+    third : (length s ≡ 0 → ⊥) → (_≡_ {A = Call × ℕ} (closeBurst, 1) x) ⊎ (cond (eqb (leAt 1 s 0) 2) keep none ≡ some x) → x .1 ≤ length s
     third l (inl e) = let m : 1 ≡ x .1 = ap (λ (y : Call × ℕ). y .1) e in omega arith
     third l (inr g) = fourth g
 
-    second : (length s ≡ 0 → ⊥) → (_≡_ {A = Call × ℕ} (dropShot byValue, 1) x) ⊎ (pick (eqb (leAt 1 s 0) 1) (some (closeBurst, 1)) (pick (eqb (leAt 1 s 0) 2) keep none) ≡ some x) → x .1 ≤ length s
+    second : (length s ≡ 0 → ⊥) → (_≡_ {A = Call × ℕ} (dropShot byValue, 1) x) ⊎ (cond (eqb (leAt 1 s 0) 1) (some (closeBurst, 1)) (cond (eqb (leAt 1 s 0) 2) keep none) ≡ some x) → x .1 ≤ length s
     second l (inl e) = let m : 1 ≡ x .1 = ap (λ (y : Call × ℕ). y .1) e in omega arith
     second l (inr g) = third l (this-or (eqb (leAt 1 s 0) 1) (closeBurst, 1) _ x g)
 

@@ -1,6 +1,6 @@
 -- A begin and a script, performed: what `replay` leaves is what the plain burst says.
 -- Assumes nothing.
-use mathlib.Core.Bool.{Bool, false}
+use mathlib.Core.Bool.{Bool, false, cond}
 use mathlib.Core.List.{List, _++_}
 use mathlib.Core.Path.{_≡_, refl, sym, ap, ap₂, _∙_}
 use Prim.Native.Nat.{ℕ, _+_, _-_, _/_, _≤_, _<_}
@@ -10,7 +10,6 @@ use lib.Dec.{eqb, ltb}
 use lib.ListN.{length, take, drop}
 use Rattle.bytes_le.specs.Bytes.{Bytes, putBytes, le}
 use Rattle.bytes_le.proofs.Laws.{put-part, length-put}
-use Rattle.icepole.specs.Sealing.{pick}
 use Rattle.burst.specs.declared.Begun.{Begun}
 use Rattle.burst.specs.Layout.{Identity}
 use Rattle.trace.specs.Plain.{Call, CallList, Answer, plainOf, plainAnswers, totalOf}
@@ -32,7 +31,7 @@ nothing-done l a b script h =
       buffer = λ g. absurd (omega arith);
       file = λ g. absurd (omega arith);
     } in
-    (d, sym (ap (λ (v : Bool). pick v false (eqb (length (scriptRest (length a / 8 - 1) script)) 0)) (lt-ltb (length a) 8 h)))
+    (d, sym (ap (λ (v : Bool). cond v false (eqb (length (scriptRest (length a / 8 - 1) script)) 0)) (lt-ltb (length a) 8 h)))
 
 module _ (key : Bytes) (i : Identity) (script b a : Bytes) (h : 8 ≤ length a) where
   abbrev room : ℕ
@@ -92,4 +91,4 @@ module _ (key : Bytes) (i : Identity) (script b a : Bytes) (h : 8 ≤ length a) 
         buffer = λ _. bf;
         file = λ _ q. ap (take (totalOf (editionFor l) (plainOf (editionFor l) l))) bf ∙ w .file q;
       } in
-      (d, ap (λ (y : Performed). y .whole) ep ∙ sym (ap (λ (v : Bool). pick v false (eqb (length (scriptRest room script)) 0)) (le-ltb (length a) 8 h)))
+      (d, ap (λ (y : Performed). y .whole) ep ∙ sym (ap (λ (v : Bool). cond v false (eqb (length (scriptRest room script)) 0)) (le-ltb (length a) 8 h)))

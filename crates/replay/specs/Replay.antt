@@ -1,6 +1,6 @@
 -- A list of calls as bytes, and what performing it leaves: demand 3's first sentence about running code.
 -- Assumes nothing.
-use mathlib.Core.Bool.{Bool, true, false}
+use mathlib.Core.Bool.{Bool, true, false, cond}
 use mathlib.Core.List.{List, [], _∷_, _++_}
 use mathlib.Core.Option.{Option, some, none}
 use mathlib.Core.Path.{_≡_}
@@ -8,7 +8,6 @@ use Prim.Native.Nat.{ℕ, zero, suc, _+_, _-_, _/_, _≤_, _<_}
 use lib.Dec.{eqb, ltb}
 use lib.ListN.{length, take, drop}
 use Rattle.bytes_le.specs.Bytes.{Bytes, putBytes, le, leAt}
-use Rattle.icepole.specs.Sealing.{pick}
 use Rattle.burst.specs.declared.Recorder.{Recorder}
 use Rattle.burst.specs.Layout.{Identity}
 use Rattle.trace.specs.Plain.{byValue, Call, keepShot, dropShot, closeBurst, CallList, Answer, plainOf, plainAnswers, totalOf, fileOf}
@@ -34,10 +33,10 @@ keepIn s = keepShot (take (stampLength s) (drop 6 s)) (take (pictureLength s) (d
 -- the first call of a script and how many bytes it takes; none at the script's end, where a keep is cut by it, and at a byte that is no call
 unfoldable pub firstCall : Bytes → Option (Call × ℕ)
 firstCall s =
-    pick (eqb (length s) 0) none
-    (pick (eqb (leAt 1 s 0) 0) (some (dropShot byValue, 1))
-    (pick (eqb (leAt 1 s 0) 1) (some (closeBurst, 1))
-    (pick (eqb (leAt 1 s 0) 2) (pick (ltb (length s) (keepLength s)) none (some (keepIn s, keepLength s))) none)))
+    cond (eqb (length s) 0) none
+    (cond (eqb (leAt 1 s 0) 0) (some (dropShot byValue, 1))
+    (cond (eqb (leAt 1 s 0) 1) (some (closeBurst, 1))
+    (cond (eqb (leAt 1 s 0) 2) (cond (ltb (length s) (keepLength s)) none (some (keepIn s, keepLength s))) none)))
 
 -- the calls of a script, at most so many as there is room for their answers
 abbrev pub following : Option (Call × ℕ) → (ℕ → List Call) → List Call
@@ -87,7 +86,7 @@ listOf key i buffer answers script = record { key = key; identity = i; bufferLen
 
 -- whether the whole script is performed, where so many bytes are lent for the answers: begin's has room, and nothing is left behind the calls
 abbrev pub wholeScript : (answers : ℕ) (script : Bytes) → Bool
-wholeScript answers script = pick (ltb answers 8) false (eqb (length (scriptRest (answers / 8 - 1) script)) 0)
+wholeScript answers script = cond (ltb answers 8) false (eqb (length (scriptRest (answers / 8 - 1) script)) 0)
 
 -- what is left of the answers a, of the buffer b and of the count n. Without room for begin's answer nothing is done. Otherwise the answers are those of the plain burst, begin's first, and after an accepted close the front of the buffer is its file
 pub record Replayed (l : CallList) (a a′ b b′ : Bytes) (n : ℕ) : Type 0 where

@@ -10,7 +10,7 @@ use Rattle.bytes_le.specs.Bytes.{Bytes, putBytes}
 use Rattle.icepole.specs.declared.Sizes.{Sizes}
 use Rattle.icepole.specs.declared.Variant.the-variants.{Icepole128}
 use Rattle.icepole.specs.Variants.{sizes}
-use Rattle.icepole.specs.Sealing.{_⊕_, keyed, ready}
+use Rattle.icepole.specs.Sealing.{_⊕₈_, keyed, ready}
 use Rattle.icepole.specs.Answers.{unless}
 use Rattle.strips.specs.declared.StripState.{StripState}
 use Rattle.strips.specs.declared.StripAnswer.{StripAnswer}
@@ -42,14 +42,14 @@ module _ (q : Sizes) (eq : q ≡ sizes Icepole128) (k n s f g o : Bytes) (num : 
 
   pub start-refused : (num ≡ 0 → ⊥) → (told num 0 notStarted ≡ startAnswer k n s (f ++ g) o) × (o ≡ startOutput k n s (f ++ g) o)
   unfolding startAnswer startOutput
-  start-refused = refused (startRefusal k n s (f ++ g) o) notStarted (started k n s (f ++ g) o) 16 o (putBytes o 0 (keyed k n ⊕ s)) num is-start
+  start-refused = refused (startRefusal k n s (f ++ g) o) notStarted (started k n s (f ++ g) o) 16 o (putBytes o 0 (keyed k n ⊕₈ s)) num is-start
 
   pub start-done : num ≡ 0 → (count : ℕ) → count ≡ q .secret → (b o′ : Bytes) → b ≡ ready (q .block) (keyed k n) s (f ++ g)
-      → o′ ≡ putBytes o 0 (keyed k n ⊕ s)
+      → o′ ≡ putBytes o 0 (keyed k n ⊕₈ s)
       → (told 0 count (record { bytes = b; count = 0; finished = false }) ≡ startAnswer k n s (f ++ g) o) × (o′ ≡ startOutput k n s (f ++ g) o)
   unfolding startAnswer startOutput
   start-done h count ec b o′ eb eo =
-      let d = done (startRefusal k n s (f ++ g) o) notStarted (started k n s (f ++ g) o) 16 o (putBytes o 0 (keyed k n ⊕ s)) (sym is-start ∙ h) in (
+      let d = done (startRefusal k n s (f ++ g) o) notStarted (started k n s (f ++ g) o) 16 o (putBytes o 0 (keyed k n ⊕₈ s)) (sym is-start ∙ h) in (
         ap₂ (λ (c : ℕ) (b : Bytes). told 0 c (record { bytes = b; count = 0; finished = false })) (ec ∙ ap (λ (q : Sizes). q .secret) eq)
             (eb ∙ ap (λ (q : Sizes). ready (q .block) (keyed k n) s (f ++ g)) eq)
             ∙ d .0,

@@ -1,7 +1,7 @@
 -- Strips give what whole sealing gives: the machine of single bytes, block by block, and over a whole message.
 -- Assumes nothing.
 use mathlib.Core.Path.{_≡_, refl, sym, ap, ap₂, _∙_}
-use mathlib.Core.Bool.{Bool, true, false}
+use mathlib.Core.Bool.{Bool, true, false, cond}
 use mathlib.Core.List.{[], _∷_, _++_, append-assoc, append-nil}
 use mathlib.Core.Logic.{_⊎_, ⊎-elim}
 use Prim.Native.Nat.{ℕ, zero, suc, _+_, _%_, _≤_, _<_, zero-le}
@@ -14,7 +14,7 @@ use lib.ListN.{length, getD, take, drop, length-append, length-drop, length-set,
 use lib.Seq.{length-take-le}
 use Rattle.bytes_le.specs.Bytes.{Bytes}
 use Rattle.state_bytes.proofs.Lengths.{length-permuted}
-use Rattle.icepole.specs.Sealing.{_⊕_, xorWith, absorb, absorbMessage, encrypt, pick, tag}
+use Rattle.icepole.specs.Sealing.{_⊕₈_, xorWith, absorb, absorbMessage, encrypt, tag}
 use Rattle.icepole.proofs.Xor.{getD-xor-with, xor-none, xor-snoc, xor-with-snoc}
 use Rattle.icepole.proofs.Steps.{padded}
 use Rattle.icepole.proofs.Blocks.{by-blocks, encrypt-last, encrypt-more, length-absorb, message-last, message-more}
@@ -38,7 +38,7 @@ length-room : (r : ℕ) (h : Held) → length (h .state) ≡ 160 → length (mak
 unfolding makeRoom
 length-room r h l = by (eqb (h .fill) r)
   where
-    by : (b : Bool) → length (pick b (held (finish (h .state) r 1) 0) h .state) ≡ 160
+    by : (b : Bool) → length (cond b (held (finish (h .state) r 1) 0) h .state) ≡ 160
     by true = length-permuted 6 _
     by false = l
 
@@ -85,16 +85,16 @@ module _ (r : ℕ) (hr : 0 < r) where
         )
 
     within : (q p : Bytes) → length p + length q ≤ r
-        → (fed r (begun p) q ≡ begun (p ++ q)) × ((u ⊕ p) ++ fedBytes r (begun p) q ≡ u ⊕ (p ++ q))
-    within [] p h = (ap begun (sym (append-nil p)), append-nil (u ⊕ p) ∙ ap (λ (p : Bytes). u ⊕ p) (sym (append-nil p)))
+        → (fed r (begun p) q ≡ begun (p ++ q)) × ((u ⊕₈ p) ++ fedBytes r (begun p) q ≡ u ⊕₈ (p ++ q))
+    within [] p h = (ap begun (sym (append-nil p)), append-nil (u ⊕₈ p) ∙ ap (λ (p : Bytes). u ⊕₈ p) (sym (append-nil p)))
     within (x ∷ q) p h =
         let t = turn p x (omega arith) in
         let i = within q (p ++ (x ∷ [])) (rw length-append (omega arith)) in (
           ap (λ (k : Held). fed r k q) (t .0) ∙ i .0 ∙ ap begun (append-assoc p (x ∷ []) q),
-          ap₂ (λ (y : ℕ) (k : Held). (u ⊕ p) ++ (y ∷ fedBytes r k q)) (t .1) (t .0)
-              ∙ sym (append-assoc (u ⊕ p) (bitXor (getD u (length p) 0) x ∷ []) (fedBytes r (begun (p ++ (x ∷ []))) q))
+          ap₂ (λ (y : ℕ) (k : Held). (u ⊕₈ p) ++ (y ∷ fedBytes r k q)) (t .1) (t .0)
+              ∙ sym (append-assoc (u ⊕₈ p) (bitXor (getD u (length p) 0) x ∷ []) (fedBytes r (begun (p ++ (x ∷ []))) q))
               ∙ ap (λ (l : Bytes). l ++ fedBytes r (begun (p ++ (x ∷ []))) q) (sym (xor-snoc u p x (omega arith)))
-              ∙ i .1 ∙ ap (λ (p : Bytes). u ⊕ p) (append-assoc p (x ∷ []) q),
+              ∙ i .1 ∙ ap (λ (p : Bytes). u ⊕₈ p) (append-assoc p (x ∷ []) q),
         )
 
     -- a block, or less
@@ -102,7 +102,7 @@ module _ (r : ℕ) (hr : 0 < r) where
     unfolding begun
     fed-last m h = within m [] (omega arith) .0
 
-    pub bytes-last : (m : Bytes) → length m ≤ r → fedBytes r (held u 0) m ≡ u ⊕ m
+    pub bytes-last : (m : Bytes) → length m ≤ r → fedBytes r (held u 0) m ≡ u ⊕₈ m
     unfolding begun
     bytes-last m h = ap (λ (l : Bytes). l ++ fedBytes r (held u 0) m) (sym (xor-none u)) ∙ within m [] (omega arith) .1
 
@@ -113,7 +113,7 @@ module _ (r : ℕ) (hr : 0 < r) where
 
     more : (m : Bytes) → r < length m
         → (fed r (held u 0) m ≡ fed r (held (absorb u (take r m) 1) 0) (drop r m))
-        × (fedBytes r (held u 0) m ≡ (u ⊕ take r m) ++ fedBytes r (held (absorb u (take r m) 1) 0) (drop r m))
+        × (fedBytes r (held u 0) m ≡ (u ⊕₈ take r m) ++ fedBytes r (held (absorb u (take r m) 1) 0) (drop r m))
     more m h =
         let lt : length (take r m) ≡ r = length-take-le r m (omega arith) in
         let e = sym (take-append-drop r m) in
@@ -124,14 +124,14 @@ module _ (r : ℕ) (hr : 0 < r) where
               ∙ ap (λ (k : Held). fed r k (drop r m)) b,
           ap (fedBytes r (held u 0)) e ∙ bytes-join r (held u 0) (take r m) (drop r m)
               ∙ ap₂ (λ (l : Bytes) (k : Held). l ++ fedBytes r k (drop r m)) (bytes-last (take r m) (omega arith)) f
-              ∙ ap (λ (l : Bytes). (u ⊕ take r m) ++ l) (a .1 ∙ ap (λ (k : Held). fedBytes r k (drop r m)) b),
+              ∙ ap (λ (l : Bytes). (u ⊕₈ take r m) ++ l) (a .1 ∙ ap (λ (k : Held). fedBytes r k (drop r m)) b),
         )
 
     pub fed-more : (m : Bytes) → r < length m → fed r (held u 0) m ≡ fed r (held (absorb u (take r m) 1) 0) (drop r m)
     fed-more m h = more m h .0
 
     pub bytes-more : (m : Bytes) → r < length m
-        → fedBytes r (held u 0) m ≡ (u ⊕ take r m) ++ fedBytes r (held (absorb u (take r m) 1) 0) (drop r m)
+        → fedBytes r (held u 0) m ≡ (u ⊕₈ take r m) ++ fedBytes r (held (absorb u (take r m) 1) 0) (drop r m)
     bytes-more m h = more m h .1
 
   -- ---- a whole message
@@ -141,7 +141,7 @@ module _ (r : ℕ) (hr : 0 < r) where
       (λ m h u hu. bytes-last hs u hu m h ∙ sym (encrypt-last r hr u m h))
       (λ m h ih u hu.
       bytes-more hs u hu m h
-      ∙ ap (λ (l : Bytes). (u ⊕ take r m) ++ l) (ih (absorb u (take r m) 1) (length-absorb u (take r m) 1))
+      ∙ ap (λ (l : Bytes). (u ⊕₈ take r m) ++ l) (ih (absorb u (take r m) 1) (length-absorb u (take r m) 1))
       ∙ sym (encrypt-more r hr u m h))
 
   pub whole-tag : r < 160 → (m u : Bytes) → length u ≡ 160 → ended (fed r (held u 0) m) ≡ tag (absorbMessage r u m)
@@ -161,7 +161,7 @@ module _ (r : ℕ) (hr : 0 < r) where
   fill-bound (suc n) = let h : n % r < r = mod-lt n hr in omega arith
 
 -- ---- the fill of the count, in blocks of 128
-pub fill-step : (n : ℕ) → fillOf 128 (suc n) ≡ pick (eqb (fillOf 128 n) 128) 0 (fillOf 128 n) + 1
+pub fill-step : (n : ℕ) → fillOf 128 (suc n) ≡ cond (eqb (fillOf 128 n) 128) 0 (fillOf 128 n) + 1
 fill-step zero = refl
 fill-step (suc n) =
     ⊎-elim
@@ -169,11 +169,11 @@ fill-step (suc n) =
     (λ (h : n % 128 + 1 < 128). rw (ne-eqb (n % 128 + 1) 128 (λ z. omega arith)) (omega arith))
     (eq-or-lt-of-le (fill-bound 128 (omega arith) (suc n)))
 
-room-fill : (h : Held) → makeRoom 128 h .fill ≡ pick (eqb (h .fill) 128) 0 (h .fill)
+room-fill : (h : Held) → makeRoom 128 h .fill ≡ cond (eqb (h .fill) 128) 0 (h .fill)
 unfolding makeRoom
 room-fill h = by (eqb (h .fill) 128)
   where
-    by : (b : Bool) → pick b (held (finish (h .state) 128 1) 0) h .fill ≡ pick b 0 (h .fill)
+    by : (b : Bool) → cond b (held (finish (h .state) 128 1) 0) h .fill ≡ cond b 0 (h .fill)
     by true = refl
     by false = refl
 

@@ -1,13 +1,12 @@
 -- The refusal numbers: each from the first condition that holds, and what number 0 tells.
 -- Assumes nothing.
 use mathlib.Core.Path.{_≡_, refl, sym, ap, ap₂, _∙_}
-use mathlib.Core.Bool.{Bool, true, false, not, _||_}
+use mathlib.Core.Bool.{Bool, true, false, cond, not, _||_}
 use Prim.Native.Nat.{ℕ, zero, suc, _+_, _≤_, _<_}
 use native.Mathlib.Omega.{arith}
 use borrow.Author.Tests.{eq-eqb, eqb-true, le-ltb, lt-ltb, ltb-false, not-false}
 use lib.Dec.{eqb, ltb}
 use Rattle.icepole.specs.Answers.{maxLength, sealNumber}
-use Rattle.icepole.specs.Sealing.{pick}
 use Rattle.icepole.specs.declared.Sizes.{Sizes}
 use Rattle.icepole.proofs.Numbers.{neither, passed, seal-0, seal-fits, stands}
 use Rattle.strips.specs.Answers.{startNumber, stripNumber, endNumber}
@@ -23,8 +22,8 @@ module _ (q : Sizes) (k n s a o : ℕ) where
       stands (not (eqb k (q .key))) 1 _ _ num
       (stands (not (eqb n (q .nonce))) 2 _ _ num
       (stands (not (eqb s (q .secret))) 3 _ _ num
-      (λ (e : pick (ltb maxLength a || false) 4 (pick (ltb (q .secret + 16) (q .secret + (0 + 16))) 5 0) ≡ suc num).
-      stands (ltb maxLength a) 4 0 _ num (λ (e : 0 ≡ suc num). absurd (omega arith)) (sym (ap₂ (λ (x y : Bool). pick x 4 (pick y 5 0)) (or-false (ltb maxLength a)) enough) ∙ e)))) e
+      (λ (e : cond (ltb maxLength a || false) 4 (cond (ltb (q .secret + 16) (q .secret + (0 + 16))) 5 0) ≡ suc num).
+      stands (ltb maxLength a) 4 0 _ num (λ (e : 0 ≡ suc num). absurd (omega arith)) (sym (ap₂ (λ (x y : Bool). cond x 4 (cond y 5 0)) (or-false (ltb maxLength a)) enough) ∙ e)))) e
     where
       or-false : (b : Bool) → (b || false) ≡ b
       or-false true = refl

@@ -9,7 +9,7 @@ use lib.ListN.{length, getD, set, take, drop, length-drop, take-append-drop}
 use lib.Seq.{drop-drop, length-take-le}
 use Rattle.bytes_le.specs.Bytes.{Bytes, putBytes}
 use Rattle.bytes_le.proofs.Laws.{put-put}
-use Rattle.icepole.specs.Sealing.{_⊕_, absorb}
+use Rattle.icepole.specs.Sealing.{_⊕₈_, absorb}
 use Rattle.icepole.proofs.Steps.{length-part, part-snoc}
 use Rattle.icepole.proofs.Xor.{length-xor}
 use Rattle.strips.specs.Machine.{Held, held, xorAt, finish, makeRoom, fed, fedBytes, fillOf}
@@ -53,10 +53,10 @@ module _ (m : Bytes) (at : ℕ) (h : 128 < length m - at) (s t : Bytes) (hs : le
       ap₂ (fed 128) rest (sym (drop-drop 128 at m)) ∙ sym (fed-more 128 (omega arith) (omega arith) s hs (drop at m) longer)
 
   -- what is put from here on is what was to be put
-  pub block-put : (o o₂ : Bytes) → length m ≤ length o → o₂ ≡ putBytes o at (s ⊕ take 128 (drop at m))
+  pub block-put : (o o₂ : Bytes) → length m ≤ length o → o₂ ≡ putBytes o at (s ⊕₈ take 128 (drop at m))
       → putBytes o₂ (at + 128) (fedBytes 128 (held t 0) (drop (at + 128) m)) ≡ putBytes o at (fedBytes 128 (held s 0) (drop at m))
   block-put o o₂ ho e =
-      let w : Bytes = s ⊕ take 128 (drop at m) in
+      let w : Bytes = s ⊕₈ take 128 (drop at m) in
       let lt : length (take 128 (drop at m)) ≡ 128 = length-part m at 128 (omega arith) in
       let lw : length w ≡ 128 = length-xor s (take 128 (drop at m)) (omega arith) ∙ lt in
       let z : Bytes = fedBytes 128 (held t 0) (drop (at + 128) m) in

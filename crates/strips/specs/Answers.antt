@@ -1,6 +1,6 @@
 -- What start, strip and end answer and leave in the lent output, for good and bad calls (01, "Afterwards" and "Turned down, by example"). ICEPOLE-128.
 -- Assumes nothing.
-use mathlib.Core.Bool.{Bool, true, false, not, _||_}
+use mathlib.Core.Bool.{Bool, true, false, cond, not, _||_}
 use mathlib.Core.List.{[], _∷_}
 use Prim.Native.Nat.{ℕ, _+_}
 use lib.Dec.{eqb, ltb}
@@ -9,7 +9,7 @@ use Rattle.bytes_le.specs.Bytes.{Bytes, putBytes}
 use Rattle.icepole.specs.declared.Sizes.{Sizes}
 use Rattle.icepole.specs.declared.Variant.the-variants.{Icepole128}
 use Rattle.icepole.specs.Variants.{sizes}
-use Rattle.icepole.specs.Sealing.{_⊕_, pick, keyed, ready}
+use Rattle.icepole.specs.Sealing.{_⊕₈_, keyed, ready}
 use Rattle.icepole.specs.Answers.{_when_, refusal, maxLength, unless}
 use Rattle.strips.specs.declared.StripState.{StripState}
 use Rattle.strips.specs.declared.StripAnswer.{StripAnswer}
@@ -44,7 +44,7 @@ endNumber finished count o = refusal ((14 when (finished || ltb maxLength count)
 
 -- ---- answers: the state that a call leaves and the count of bytes written, or the state it was given and zeros
 abbrev pub answered : ℕ → StripState → StripState → ℕ → StripAnswer
-answered num was is count = record { refusal = num; mark = 0; count = pick (eqb num 0) count 0; state = pick (eqb num 0) is was }
+answered num was is count = record { refusal = num; mark = 0; count = cond (eqb num 0) count 0; state = cond (eqb num 0) is was }
 
 -- ---- start
 -- what a start that is turned down returns
@@ -64,7 +64,7 @@ module _ (key nonce secret ad out : Bytes) where
 
   -- the sealed secret number
   unfoldable pub startOutput : Bytes
-  startOutput = unless startRefusal out (putBytes out 0 (keyed key nonce ⊕ secret))
+  startOutput = unless startRefusal out (putBytes out 0 (keyed key nonce ⊕₈ secret))
 
 -- ---- strip and end: a state is what its fields say, whoever made it
 abbrev pub heldIn : StripState → Held

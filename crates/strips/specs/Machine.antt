@@ -1,5 +1,6 @@
 -- A message in strips (01, "Afterwards"), byte by byte, in blocks of r bytes. A block that is full waits until one more byte comes, for its frame bit says whether it was the last.
 -- Assumes nothing.
+use mathlib.Core.Bool.{cond}
 use mathlib.Core.List.{[], _∷_}
 use Prim.Native.Nat.{ℕ, zero, suc, _+_, _%_}
 use lib.Bits.{bitXor}
@@ -7,7 +8,7 @@ use lib.Dec.{eqb}
 use lib.ListN.{getD, set}
 use Rattle.bytes_le.specs.Bytes.{Bytes}
 use Rattle.state_bytes.specs.StateBytes.{permuted}
-use Rattle.icepole.specs.Sealing.{pick, tag}
+use Rattle.icepole.specs.Sealing.{tag}
 
 -- the state's bytes; the block that waits is xored in, and has `fill` bytes
 pub record Held : Type 0 where
@@ -28,7 +29,7 @@ finish v fill frame = permuted 6 (xorAt v fill (frame + 2))
 module _ (r : ℕ) where
   -- one more byte comes: a full block was not the last
   unfoldable pub makeRoom : Held → Held
-  makeRoom h = pick (eqb (h .fill) r) (held (finish (h .state) r 1) 0) h
+  makeRoom h = cond (eqb (h .fill) r) (held (finish (h .state) r 1) 0) h
 
   abbrev pub step : Held → ℕ → Held
   step h x = held (xorAt (makeRoom h .state) (makeRoom h .fill) x) (makeRoom h .fill + 1)

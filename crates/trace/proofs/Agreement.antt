@@ -1,6 +1,6 @@
 -- A run of the calls agrees with the plain burst: an open burst and its recorder answer alike and go on alike, and a closed one answers 8 for good.
 -- Assumes nothing.
-use mathlib.Core.Bool.{Bool, true, false, not}
+use mathlib.Core.Bool.{Bool, true, false, cond, not}
 use mathlib.Core.List.{List, [], _∷_, _++_, append-assoc, append-nil}
 use mathlib.Core.Logic.{_⊎_, inl, inr}
 use mathlib.Core.Path.{_≡_, refl, sym, ap, ap₂, subst, _∙_}
@@ -13,7 +13,6 @@ use lib.ListN.{length, take, drop, set, replicate, length-append, length-replica
 use lib.Seq.{take-at, drop-at, take-suc-set, length-take-le}
 use Rattle.bytes_le.specs.Bytes.{Bytes, putBytes}
 use Rattle.bytes_le.proofs.Laws.{length-put, take-put}
-use Rattle.icepole.specs.Sealing.{pick}
 use Rattle.burst.specs.declared.Entry.{Entry}
 use Rattle.burst.specs.declared.Recorder.{Recorder}
 use Rattle.burst.specs.declared.Edition.{Edition}
@@ -21,8 +20,8 @@ use Rattle.burst.specs.Editions.{written, maxEntries, Known}
 use Rattle.burst.specs.Layout.{Identity, recordBytes, closingSeal}
 use Rattle.burst.specs.Numbers.{totalFrom, beginNumber}
 use Rattle.burst.specs.Index.{entryOf, indexRules, indexBytes}
-use Rattle.trace.specs.Plain.{Shot, kept, gap, pictures, gaps, usedBy, records, Plain, noBurst, totalOf, headerOf, indexOf, fileOf, Way, Call, keepShot, dropShot, closeBurst, CallList, Answer, numberOf, accepted, valueOf, afterCall, answerOf, afterCalls, answersOf, begun, plainOf, plainAnswers, beginRefusal}
-use Rattle.burst.specs.Recorder.{editionOf, nameOf, identityOf, isSound, newRecorder, noRecorder, beginRefused, beginAnswer, beginBuffer, afterDrop, dropRefused, dropAnswer, afterKeep, keepRefused, keepAnswer, keepBuffer, recorderHeader, recorderIndex, recorderSeal, afterClose, closeRefused, closeAnswer, closeBuffer}
+use Rattle.trace.specs.Plain.{Firing, kept, gap, pictures, gaps, usedBy, records, Plain, noBurst, totalOf, headerOf, indexOf, fileOf, Way, Call, keepShot, dropShot, closeBurst, CallList, Answer, numberOf, accepted, valueOf, afterCall, answerOf, afterCalls, answersOf, begun, plainOf, plainAnswers, beginNumberOf}
+use Rattle.burst.specs.Recorder.{editionOf, nameOf, identityOf, isSound, newRecorder, noRecorder, beginRefusal, beginAnswer, beginBuffer, afterDrop, dropRefusal, dropAnswer, afterKeep, keepRefusal, keepAnswer, keepBuffer, recorderHeader, recorderIndex, recorderSeal, afterClose, closeRefusal, closeAnswer, closeBuffer}
 use Rattle.burst.proofs.Rows.{written-known}
 use Rattle.burst.proofs.Rules.{clash, sound-is}
 use Rattle.burst.proofs.Numbers.{keeps, drops, closes, keep-8, drop-8, close-8, begins}
@@ -31,7 +30,7 @@ use Rattle.trace.specs.Trace.{nextRecorder, nextBuffer, answerTo, answer
 use Rattle.trace.specs.Agreement.{Reached, Agrees, editionFor, Agreement}
 use Rattle.trace.proofs.Shots.{entries, Valid, valid-snoc, pictures-append, pictures-gaps, used-append, used-least, entries-append, records-append, index-entries, length-index, sound-entries, length-record, length-closing}
 
-abbrev pub with : Plain → List Shot → Bool → Plain
+abbrev pub with : Plain → List Firing → Bool → Plain
 with p xs c = record { key = p .key; identity = p .identity; shots = xs; closed = c }
 
 module _ (ed : Edition) (known : Known ed) where
@@ -70,16 +69,16 @@ module _ (ed : Edition) (known : Known ed) where
         ∙ sym (ap not (l .open-p))
 
     -- the recorder and the plain burst have the same numbers
-    keep-number : (s q : Bytes) → keepRefused r s q b ≡ numberOf ed n p (keepShot s q)
-    unfolding keepRefused numberOf
+    keep-number : (s q : Bytes) → keepRefusal r s q b ≡ numberOf ed n p (keepShot s q)
+    unfolding keepRefusal numberOf
     keep-number s q = cc (l .row, live-sound, l .taken, l .kept, l .used, l .room)
 
-    drop-number : (way : Way) → dropRefused r ≡ numberOf ed n p (dropShot way)
-    unfolding dropRefused numberOf
+    drop-number : (way : Way) → dropRefusal r ≡ numberOf ed n p (dropShot way)
+    unfolding dropRefusal numberOf
     drop-number way = cc (l .row, live-sound, l .taken)
 
-    close-number : closeRefused r b ≡ numberOf ed n p closeBurst
-    unfolding closeRefused numberOf
+    close-number : closeRefusal r b ≡ numberOf ed n p closeBurst
+    unfolding closeRefusal numberOf
     close-number = cc (l .row, live-sound, l .kept, l .used, l .room)
 
     keep-live : (s q : Bytes) → numberOf ed n p (keepShot s q) ≡ 0
@@ -239,19 +238,19 @@ module _ (ed : Edition) (known : Known ed) where
     off-plain c = simp (plain-8 c)
 
     off-answer : (c : Call) → answerTo r b c ≡ answerOf ed n p c
-    unfolding answerTo answerOf keepAnswer dropAnswer closeAnswer keepRefused dropRefused closeRefused
+    unfolding answerTo answerOf keepAnswer dropAnswer closeAnswer keepRefusal dropRefusal closeRefusal
     off-answer (keepShot s q) = simp (plain-8 (keepShot s q), sym (keep-8 (editionOf r) _ (r .taken .0) (r .kept .0) (r .used) (length s) (length q) (length b) (o .shut-r)))
     off-answer (dropShot way) = simp (plain-8 (dropShot way), sym (drop-8 (editionOf r) _ (r .taken .0) (o .shut-r)))
     off-answer closeBurst = simp (plain-8 closeBurst, sym (close-8 _ (r .kept .0) (r .used) (length b) (o .shut-r)))
 
     off-recorder : (c : Call) → nextRecorder r b c ≡ r
-    unfolding nextRecorder keepAnswer dropAnswer closeAnswer keepRefused dropRefused closeRefused
+    unfolding nextRecorder keepAnswer dropAnswer closeAnswer keepRefusal dropRefusal closeRefusal
     off-recorder (keepShot s q) = simp (sym (keep-8 (editionOf r) _ (r .taken .0) (r .kept .0) (r .used) (length s) (length q) (length b) (o .shut-r)))
     off-recorder (dropShot way) = simp (sym (drop-8 (editionOf r) _ (r .taken .0) (o .shut-r)))
     off-recorder closeBurst = simp (sym (close-8 _ (r .kept .0) (r .used) (length b) (o .shut-r)))
 
     off-buffer : (c : Call) → nextBuffer r b c ≡ b
-    unfolding nextBuffer keepBuffer closeBuffer keepRefused closeRefused
+    unfolding nextBuffer keepBuffer closeBuffer keepRefusal closeRefusal
     off-buffer (keepShot s q) = simp (sym (keep-8 (editionOf r) _ (r .taken .0) (r .kept .0) (r .used) (length s) (length q) (length b) (o .shut-r)))
     off-buffer (dropShot way) = refl
     off-buffer closeBurst = simp (sym (close-8 _ (r .kept .0) (r .used) (length b) (o .shut-r)))
@@ -283,7 +282,7 @@ module _ (ed : Edition) (known : Known ed) where
 
   -- number 0 goes on, any other stays
   goes-on : (n num : ℕ) (p p′ : Plain) (r r′ : Recorder) (b b′ : Bytes) (z : Bool) → eqb num 0 ≡ z → (num ≡ 0 → Next n p′ r′ b′) → Next n p r b
-      → Next n (pick z p′ p) (pick z r′ r) (pick z b′ b)
+      → Next n (cond z p′ p) (cond z r′ r) (cond z b′ b)
   goes-on n num p p′ r r′ b b′ true e f l = f (eqb-true num 0 e)
   goes-on n num p p′ r r′ b b′ false e f l = l
 
@@ -292,7 +291,7 @@ module _ (ed : Edition) (known : Known ed) where
     pub next : Next n (afterCall ed n p c) (nextRecorder r b c) (nextBuffer r b c)
 
   abbrev told : ℕ → ℕ → Answer
-  told num value = record { number = num; mark = 0; value = pick (eqb num 0) value 0 }
+  told num value = record { number = num; mark = 0; value = cond (eqb num 0) value 0 }
 
   module _ (n : ℕ) (p : Plain) (r : Recorder) (b : Bytes) (l : Live n p r b) where
     keep-step : (s q : Bytes) → Step n p r b (keepShot s q)
@@ -302,7 +301,7 @@ module _ (ed : Edition) (known : Known ed) where
         record {
           answer = ap₂ (λ (k t : ℕ). told k (t + 1)) e (l .taken);
           next =
-              subst (λ (k : ℕ). Next n (afterCall ed n p (keepShot s q)) (pick (eqb k 0) (afterKeep r (length q)) r) (pick (eqb k 0) (putBytes b (r .used) (recordBytes (editionOf r) (r .key) (nameOf r) (r .taken .0 + 1) (r .used) s q)) b)) (sym e)
+              subst (λ (k : ℕ). Next n (afterCall ed n p (keepShot s q)) (cond (eqb k 0) (afterKeep r (length q)) r) (cond (eqb k 0) (putBytes b (r .used) (recordBytes (editionOf r) (r .key) (nameOf r) (r .taken .0 + 1) (r .used) s q)) b)) (sym e)
               (goes-on n (numberOf ed n p (keepShot s q)) p _ r _ b _ _ refl (λ z. inl (keep-live n p r b l s q z)) (inl l));
         }
 
@@ -313,11 +312,11 @@ module _ (ed : Edition) (known : Known ed) where
         record {
           answer = ap₂ (λ (k t : ℕ). told k (t + 1)) e (l .taken);
           next =
-              subst (λ (k : ℕ). Next n (afterCall ed n p (dropShot way)) (pick (eqb k 0) (afterDrop r) r) b) (sym e)
+              subst (λ (k : ℕ). Next n (afterCall ed n p (dropShot way)) (cond (eqb k 0) (afterDrop r) r) b) (sym e)
               (both-same n (numberOf ed n p (dropShot way)) p _ r _ b _ refl (λ z. inl (drop-live n p r b l way z)) (inl l));
         }
       where
-        both-same : (n num : ℕ) (p p′ : Plain) (r r′ : Recorder) (b : Bytes) (z : Bool) → eqb num 0 ≡ z → (num ≡ 0 → Next n p′ r′ b) → Next n p r b → Next n (pick z p′ p) (pick z r′ r) b
+        both-same : (n num : ℕ) (p p′ : Plain) (r r′ : Recorder) (b : Bytes) (z : Bool) → eqb num 0 ≡ z → (num ≡ 0 → Next n p′ r′ b) → Next n p r b → Next n (cond z p′ p) (cond z r′ r) b
         both-same n num p p′ r r′ b true e f l = f (eqb-true num 0 e)
         both-same n num p p′ r r′ b false e f l = l
 
@@ -341,7 +340,7 @@ module _ (ed : Edition) (known : Known ed) where
         record {
           answer = ap₂ told e total-same;
           next =
-              subst (λ (k : ℕ). Next n (afterCall ed n p closeBurst) (pick (eqb k 0) (afterClose r) r) (pick (eqb k 0) (putBytes (putBytes b 0 (recorderHeader r)) (r .used) (recorderIndex r ++ recorderSeal r)) b)) (sym e)
+              subst (λ (k : ℕ). Next n (afterCall ed n p closeBurst) (cond (eqb k 0) (afterClose r) r) (cond (eqb k 0) (putBytes (putBytes b 0 (recorderHeader r)) (r .used) (recorderIndex r ++ recorderSeal r)) b)) (sym e)
               (goes-on n (numberOf ed n p closeBurst) p _ r _ b _ _ refl (λ z. inr (shut-off, shut-file z)) (inl l));
         }
 
@@ -394,8 +393,8 @@ module _ (l : CallList) (b : Bytes) (hb : length b ≡ l .bufferLength) where
   abbrev row : Edition
   row = editionFor l
 
-  number-same : beginRefused (l .key) (l .identity) b ≡ beginRefusal row l
-  unfolding beginRefused
+  number-same : beginRefusal (l .key) (l .identity) b ≡ beginNumberOf row l
+  unfolding beginRefusal
   number-same = ap (beginNumber row (length (l .key)) (length (l .identity .siteMark))) hb
 
   no-recorder : isSound (editionOf noRecorder) noRecorder ≡ false
@@ -403,20 +402,20 @@ module _ (l : CallList) (b : Bytes) (hb : length b ≡ l .bufferLength) where
   no-recorder = refl
 
   abbrev plainFrom : Bool → Plain
-  plainFrom z = pick z (record { key = l .key; identity = l .identity; shots = []; closed = false }) noBurst
+  plainFrom z = cond z (record { key = l .key; identity = l .identity; shots = []; closed = false }) noBurst
 
   abbrev recorderFrom : Bool → Recorder
-  recorderFrom z = pick z (newRecorder (l .key) (l .identity) (row .header) false) noRecorder
+  recorderFrom z = cond z (newRecorder (l .key) (l .identity) (row .header) false) noRecorder
 
   abbrev bufferBegun : Bool → Bytes
-  bufferBegun z = pick z (putBytes b 0 (replicate (row .header) 0)) b
+  bufferBegun z = cond z (putBytes b 0 (replicate (row .header) 0)) b
 
   -- what begin leaves: an open burst, or one that stays closed
   abbrev Starts : Bool → Type 0
-  Starts z = (Off row (written-known _) (plainFrom z) (recorderFrom z) × (beginRefusal row l ≡ 0 → ⊥)) ⊎ Next row (written-known _) (l .bufferLength) (plainFrom z) (recorderFrom z) (bufferBegun z)
+  Starts z = (Off row (written-known _) (plainFrom z) (recorderFrom z) × (beginNumberOf row l ≡ 0 → ⊥)) ⊎ Next row (written-known _) (l .bufferLength) (plainFrom z) (recorderFrom z) (bufferBegun z)
 
-  starts : (z : Bool) → eqb (beginRefusal row l) 0 ≡ z → Starts z
-  unfolding beginRefused
+  starts : (z : Bool) → eqb (beginNumberOf row l) 0 ≡ z → Starts z
+  unfolding beginRefusal
   starts true e =
       inr (inl (subst (λ (n : ℕ). Live row (written-known _) n (plainFrom true) (recorderFrom true) (bufferBegun true)) hb (begun-live (l .key) (l .identity) b (number-same ∙ eqb-true _ _ e))))
   starts false e = inl (record { shut-p = refl; shut-r = no-recorder }, eqb-false _ _ e)
@@ -435,12 +434,12 @@ module _ (l : CallList) (b : Bytes) (hb : length b ≡ l .bufferLength) where
   pub agrees : Agrees row l b
   unfolding runAnswers runBuffer plainAnswers plainOf begun beginAnswer beginBuffer
   agrees =
-      let w = whole (eqb (beginRefusal row l) 0) (starts (eqb (beginRefusal row l) 0) refl) in
+      let w = whole (eqb (beginNumberOf row l) 0) (starts (eqb (beginNumberOf row l) 0) refl) in
       let n = number-same in
       record {
         answers =
             ap (λ (k : ℕ). let a : Answer = record { number = k; mark = 0; value = 0 } in a ∷ answersFrom (recorderFrom (eqb k 0)) (bufferBegun (eqb k 0)) (l .calls)) n
-            ∙ ap (λ (ts : List Answer). let a : Answer = record { number = beginRefusal row l; mark = 0; value = 0 } in a ∷ ts) (w .answers);
+            ∙ ap (λ (ts : List Answer). let a : Answer = record { number = beginNumberOf row l; mark = 0; value = 0 } in a ∷ ts) (w .answers);
         file = λ q.
             ap (λ (k : ℕ). take (totalOf row (plainOf row l)) (bufferFrom (recorderFrom (eqb k 0)) (bufferBegun (eqb k 0)) (l .calls))) n
             ∙ w .file q (q .closed);

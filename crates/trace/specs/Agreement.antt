@@ -6,12 +6,12 @@ use lib.ListN.{length, take}
 use Rattle.bytes_le.specs.Bytes.{Bytes}
 use Rattle.burst.specs.declared.Edition.{Edition}
 use Rattle.burst.specs.Editions.{written}
-use Rattle.trace.specs.Plain.{CallList, plainOf, plainAnswers, totalOf, fileOf, beginRefusal}
+use Rattle.trace.specs.Plain.{CallList, plainOf, plainAnswers, totalOf, fileOf, beginNumberOf}
 use Rattle.trace.specs.Trace.{runAnswers, runBuffer}
 
 -- the list, as one of edition e, has an accepted close: it was begun, and its plain burst is closed
 pub record Reached (e : Edition) (l : CallList) : Type 0 where
-  pub begun : beginRefusal e l ≡ 0
+  pub begun : beginNumberOf e l ≡ 0
   pub closed : plainOf e l .closed ≡ true
 
 pub record Agrees (e : Edition) (l : CallList) (b : Bytes) : Type 0 where

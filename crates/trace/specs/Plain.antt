@@ -1,47 +1,46 @@
 -- The plain burst (01, "Recorder"): worked out from the calls' arguments and the buffer's length alone, never from the recorder.
 -- Assumes nothing.
-use mathlib.Core.Bool.{Bool, true, false, not}
+use mathlib.Core.Bool.{Bool, true, false, cond, not}
 use mathlib.Core.List.{List, [], _∷_, _++_}
 use Prim.Native.Nat.{ℕ, suc, _+_}
 use lib.Dec.{eqb}
 use lib.ListN.{length}
 use Rattle.bytes_le.specs.Bytes.{Bytes}
-use Rattle.icepole.specs.Sealing.{pick}
 use Rattle.burst.specs.declared.Edition.{Edition}
 use Rattle.burst.specs.declared.Name.{Name}
 use Rattle.burst.specs.Layout.{Identity, entryBytes, headerBytes, recordBytes, closingSeal}
 use Rattle.burst.specs.Numbers.{usedAfter, totalFrom, beginNumber, keepNumber, dropNumber, closeNumber}
 
--- ---- a shot: a picture with its stamp, or a gap where it was dropped
-pub data Shot : Type 0 where
-  kept : (stamp picture : Bytes) → Shot
-  gap : Shot
+-- ---- a firing of the shutter: a picture with its stamp, or a gap where it was dropped. (01 says "a list of shots"; `Shot` is the number of one)
+pub data Firing : Type 0 where
+  kept : (stamp picture : Bytes) → Firing
+  gap : Firing
 
 -- how many pictures, and how many gaps
-abbrev pub pictures : List Shot → ℕ
+abbrev pub pictures : List Firing → ℕ
 pictures [] = 0
 pictures (kept s p ∷ xs) = suc (pictures xs)
 pictures (gap ∷ xs) = pictures xs
 
-abbrev pub gaps : List Shot → ℕ
+abbrev pub gaps : List Firing → ℕ
 gaps [] = 0
 gaps (kept s p ∷ xs) = gaps xs
 gaps (gap ∷ xs) = suc (gaps xs)
 
 -- the bytes used after the records of xs, where `used` were before
-abbrev pub usedBy : ℕ → List Shot → ℕ
+abbrev pub usedBy : ℕ → List Firing → ℕ
 usedBy used [] = used
 usedBy used (kept s p ∷ xs) = usedBy (usedAfter used (length p)) xs
 usedBy used (gap ∷ xs) = usedBy used xs
 
 -- the records, and the index, of xs, the first of which is shot number n; the first record stands at `offset`
-abbrev pub records : Edition → Bytes → Name → ℕ → ℕ → List Shot → Bytes
+abbrev pub records : Edition → Bytes → Name → ℕ → ℕ → List Firing → Bytes
 records e key name n offset [] = []
 records e key name n offset (kept s p ∷ xs) =
     recordBytes e key name n offset s p ++ records e key name (n + 1) (usedAfter offset (length p)) xs
 records e key name n offset (gap ∷ xs) = records e key name (n + 1) offset xs
 
-abbrev pub index : ℕ → ℕ → List Shot → Bytes
+abbrev pub index : ℕ → ℕ → List Firing → Bytes
 index n offset [] = []
 index n offset (kept s p ∷ xs) = entryBytes n 0 offset (length p) ++ index (n + 1) (usedAfter offset (length p)) xs
 index n offset (gap ∷ xs) = index (n + 1) offset xs
@@ -50,7 +49,7 @@ index n offset (gap ∷ xs) = index (n + 1) offset xs
 pub record Plain : Type 0 where
   pub key : Bytes
   pub identity : Identity
-  pub shots : List Shot
+  pub shots : List Firing
   pub closed : Bool
 
 -- at first it is closed
@@ -109,13 +108,13 @@ module _ (e : Edition) (bufferLength : ℕ) where
   numberOf p (dropShot way) = dropNumber e (not (p .closed)) (length (p .shots))
   numberOf p closeBurst = closeNumber (not (p .closed)) (pictures (p .shots)) (usedOf e p) bufferLength
 
-  abbrev withShot : Plain → Shot → Plain
-  withShot p x = record { key = p .key; identity = p .identity; shots = p .shots ++ (x ∷ []); closed = p .closed }
+  abbrev withFiring : Plain → Firing → Plain
+  withFiring p x = record { key = p .key; identity = p .identity; shots = p .shots ++ (x ∷ []); closed = p .closed }
 
   -- the burst after an accepted call
   unfoldable pub accepted : Plain → Call → Plain
-  accepted p (keepShot s q) = withShot p (kept s q)
-  accepted p (dropShot way) = withShot p gap
+  accepted p (keepShot s q) = withFiring p (kept s q)
+  accepted p (dropShot way) = withFiring p gap
   accepted p closeBurst = record { key = p .key; identity = p .identity; shots = p .shots; closed = true }
 
   -- what an accepted call answers: the count of shots, or the total
@@ -126,11 +125,11 @@ module _ (e : Edition) (bufferLength : ℕ) where
 
   -- a call turned down changes nothing
   unfoldable pub afterCall : Plain → Call → Plain
-  afterCall p c = pick (eqb (numberOf p c) 0) (accepted p c) p
+  afterCall p c = cond (eqb (numberOf p c) 0) (accepted p c) p
 
   -- the mark is 0: no call of these is refused with 7
   unfoldable pub answerOf : Plain → Call → Answer
-  answerOf p c = record { number = numberOf p c; mark = 0; value = pick (eqb (numberOf p c) 0) (valueOf p c) 0 }
+  answerOf p c = record { number = numberOf p c; mark = 0; value = cond (eqb (numberOf p c) 0) (valueOf p c) 0 }
 
   abbrev pub afterCalls : Plain → List Call → Plain
   afterCalls p [] = p
@@ -141,12 +140,12 @@ module _ (e : Edition) (bufferLength : ℕ) where
   answersOf p (c ∷ cs) = answerOf p c ∷ answersOf (afterCall p c) cs
 
 module _ (e : Edition) (l : CallList) where
-  abbrev pub beginRefusal : ℕ
-  beginRefusal = beginNumber e (length (l .key)) (length (l .identity .siteMark)) (l .bufferLength)
+  abbrev pub beginNumberOf : ℕ
+  beginNumberOf = beginNumber e (length (l .key)) (length (l .identity .siteMark)) (l .bufferLength)
 
   -- a begin turned down leaves the burst closed
   unfoldable pub begun : Plain
-  begun = pick (eqb beginRefusal 0) (record { key = l .key; identity = l .identity; shots = []; closed = false }) noBurst
+  begun = cond (eqb beginNumberOf 0) (record { key = l .key; identity = l .identity; shots = []; closed = false }) noBurst
 
   -- the plain burst of a list
   unfoldable pub plainOf : Plain
@@ -154,4 +153,4 @@ module _ (e : Edition) (l : CallList) where
 
   -- the answers of all its calls, begin's first
   unfoldable pub plainAnswers : List Answer
-  plainAnswers = record { number = beginRefusal; mark = 0; value = 0 } ∷ answersOf e (l .bufferLength) begun (l .calls)
+  plainAnswers = record { number = beginNumberOf; mark = 0; value = 0 } ∷ answersOf e (l .bufferLength) begun (l .calls)

@@ -1,16 +1,15 @@
 -- `burst_c::burst_replay` meets its contract.
 -- Assumes nothing.
-use mathlib.Core.Bool.{Bool}
+use mathlib.Core.Bool.{Bool, cond}
 use mathlib.Core.Path.{_≡_, sym, ap, _∙_}
 use Prim.Native.Nat.{ℕ}
 use borrow.Author.Needs.{needs}
 use borrow.Author.Tests.{not-true, not-false}
-use Rattle.icepole.specs.Sealing.{pick}
 use Rattle.burst_c.proofs.burst_replay.Statement.{statement}
 use Rattle.burst_c.proofs.burst_replay.Tie as tie
 
 abbrev flag : Bool → ℕ
-flag v = pick v 1 0
+flag v = cond v 1 0
 
 returns : tie.Need-returns
 returns c = let e = c .before .before .before .before .before .before .replay .ensures in (e .0, ap flag (sym (not-true _ (c .if1 .taken)) ∙ e .1))

@@ -9,14 +9,14 @@ use lib.Bits.{bitXor}
 use lib.ListN.{length, take, drop, getD, set, length-set}
 use Rattle.bytes_le.specs.Bytes.{Bytes, putBytes}
 use Rattle.bytes_le.proofs.Laws.{put-none, put-snoc}
-use Rattle.icepole.specs.Sealing.{_⊕_}
+use Rattle.icepole.specs.Sealing.{_⊕₈_}
 use Rattle.icepole.proofs.Steps.{length-part, part-snoc}
 use Rattle.icepole.proofs.Xor.{length-xor, xor-none, xor-snoc}
 use Rattle.icepole.proofs.decrypt_last.Statement.{statement}
 use Rattle.icepole.proofs.decrypt_last.Tie as tie
 
 abbrev Inv-loop : tie.InvT-loop
-Inv-loop c at n out₀ to v j₀ out j = (j ≤ n) × (length v ≡ 160) × (out ≡ putBytes out₀ to (v ⊕ take j (drop at c))) × (length out ≡ length out₀)
+Inv-loop c at n out₀ to v j₀ out j = (j ≤ n) × (length v ≡ 160) × (out ≡ putBytes out₀ to (v ⊕₈ take j (drop at c))) × (length out ≡ length out₀)
 
 abbrev μ-loop : tie.MeasureT-loop
 μ-loop c at n out₀ to v j₀ out j = n - j
@@ -35,16 +35,16 @@ loop-again c =
     let y = getD (a .c .now) (a .at + j) 0 in
     let p = take j (drop (a .at) (a .c .now)) in
     let lp : length (take (l .loop .j) (drop (a .at) (a .c .now))) ≡ l .loop .j = length-part (a .c .now) (a .at) j (omega arith) in
-    let lx : length (a .t1 ⊕ take (l .loop .j) (drop (a .at) (a .c .now))) ≡ l .loop .j = length-xor (a .t1) p (omega arith) ∙ lp in (
+    let lx : length (a .t1 ⊕₈ take (l .loop .j) (drop (a .at) (a .c .now))) ≡ l .loop .j = length-xor (a .t1) p (omega arith) ∙ lp in (
       omega arith,
       lv,
       ap (λ (o : Bytes). set o (a .to + j) (bitXor (getD (a .t1) j 0) y)) (l .loop .inv .2)
-          ∙ put-snoc (a .out .now) (a .to) (a .t1 ⊕ p) (a .to + j) _ (omega arith) (omega arith)
+          ∙ put-snoc (a .out .now) (a .to) (a .t1 ⊕₈ p) (a .to + j) _ (omega arith) (omega arith)
           ∙ ap (putBytes (a .out .now) (a .to))
           (sym
-          (ap (λ (q : Bytes). a .t1 ⊕ q) (part-snoc (a .c .now) (a .at) j hd)
+          (ap (λ (q : Bytes). a .t1 ⊕₈ q) (part-snoc (a .c .now) (a .at) j hd)
           ∙ xor-snoc (a .t1) p y (omega arith)
-          ∙ ap (λ (k : ℕ). (a .t1 ⊕ p) ++ (bitXor (getD (a .t1) k 0) y ∷ [])) lp)),
+          ∙ ap (λ (k : ℕ). (a .t1 ⊕₈ p) ++ (bitXor (getD (a .t1) k 0) y ∷ [])) lp)),
       simp length-set (l .loop .inv .3),
     )
 
@@ -56,7 +56,7 @@ returns c =
     let l = c .before in
     let a = l .before .args in
     let e : l .loop .j ≡ a .n = omega arith in
-    l .loop .inv .2 ∙ ap (λ (k : ℕ). putBytes (a .out .now) (a .to) (a .t1 ⊕ take k (drop (a .at) (a .c .now)))) e
+    l .loop .inv .2 ∙ ap (λ (k : ℕ). putBytes (a .out .now) (a .to) (a .t1 ⊕₈ take k (drop (a .at) (a .c .now)))) e
 
 pub decrypt-last-spec : {M : Type 1} → statement M
 decrypt-last-spec =

@@ -10,7 +10,7 @@ use Rattle.bytes_le.specs.Bytes.{Bytes, putBytes}
 use Rattle.state_bytes.specs.StateBytes.{bytesOf}
 use Rattle.bytes_le.proofs.Laws.{put-none}
 use Rattle.state_bytes.proofs.Lengths.{length-bytes}
-use Rattle.icepole.specs.Sealing.{_⊕_, absorb, decrypt}
+use Rattle.icepole.specs.Sealing.{_⊕₈_, absorb, decrypt}
 use Rattle.icepole.proofs.Blocks.{decrypt-last, length-decrypt}
 use Rattle.icepole.proofs.Steps.{length-part}
 use Rattle.icepole.proofs.Turns.{decrypt-end, decrypt-turn, window}
@@ -41,8 +41,8 @@ loop-again c =
     let w = window (a .c .now) (a .from) (a .l) (l .loop .at) r (omega arith) (omega arith) in
     let z : 0 + l .loop .at ≡ l .loop .at = omega arith in
     let t = decrypt-turn r (omega arith) d (l .loop .at) (omega arith) s (length-bytes (l .loop .s)) (a .out .now) (l .loop .out) _ (decrypt r v d) 0 lp (omega arith) (l .loop .inv .2) _ (rw ld (i .loop-test .taken)) (l .loop .inv .1)
-    (q .ensures .0 ∙ ap (λ (b : Bytes). absorb s (s ⊕ b) 1) w)
-    (q .ensures .1 ∙ ap₂ (λ (k : ℕ) (b : Bytes). putBytes (l .loop .out) k (s ⊕ b)) (sym z) w) in (
+    (q .ensures .0 ∙ ap (λ (b : Bytes). absorb s (s ⊕₈ b) 1) w)
+    (q .ensures .1 ∙ ap₂ (λ (k : ℕ) (b : Bytes). putBytes (l .loop .out) k (s ⊕₈ b)) (sym z) w) in (
       omega arith,
       t .0,
       t .1,
@@ -67,8 +67,8 @@ returns c =
     let z : 0 + l .loop .at ≡ l .loop .at = omega arith in
     decrypt-end r (omega arith) d (l .loop .at) (omega arith) s (length-bytes (l .loop .s)) (a .out .now) (l .loop .out) _ (decrypt r v d) 0 lp (omega arith) (l .loop .inv .2) k (omega arith) (rw ld refl) (i .loop-test .left) (l .loop .inv .1)
     (q .ensures
-    ∙ ap (λ (s : Bytes). putBytes (l .loop .out) (l .loop .at) (s ⊕ take k (drop (a .from + l .loop .at) (a .c .now)))) y
-    ∙ ap₂ (λ (k : ℕ) (b : Bytes). putBytes (l .loop .out) k (s ⊕ b)) (sym z) w)
+    ∙ ap (λ (s : Bytes). putBytes (l .loop .out) (l .loop .at) (s ⊕₈ take k (drop (a .from + l .loop .at) (a .c .now)))) y
+    ∙ ap₂ (λ (k : ℕ) (b : Bytes). putBytes (l .loop .out) k (s ⊕₈ b)) (sym z) w)
 
 pub decrypt-message-spec : {M : Type 1} → statement M
 decrypt-message-spec =

@@ -8,14 +8,14 @@ use lib.Bits.{bitXor}
 use lib.ListN.{length, take, drop, getD, set, length-set}
 use Rattle.bytes_le.specs.Bytes.{Bytes, putBytes}
 use Rattle.bytes_le.proofs.Laws.{put-none, put-snoc}
-use Rattle.icepole.specs.Sealing.{_⊕_, xorWith}
+use Rattle.icepole.specs.Sealing.{_⊕₈_, xorWith}
 use Rattle.icepole.proofs.Steps.{length-part, padded, xor-more, xor-with-more}
 use Rattle.icepole.proofs.Xor.{length-xor, xor-none}
 use Rattle.icepole.proofs.encrypt_bytes.Statement.{statement}
 use Rattle.icepole.proofs.encrypt_bytes.Tie as tie
 
 abbrev Inv-loop : tie.InvT-loop
-Inv-loop m at n frame out₀ to b₀ j₀ out b j = (j ≤ n) × (b ≡ xorWith b₀ (take j (drop at m))) × (length b₀ ≡ 160) × (out ≡ putBytes out₀ to (b₀ ⊕ take j (drop at m))) × (length out ≡ length out₀)
+Inv-loop m at n frame out₀ to b₀ j₀ out b j = (j ≤ n) × (b ≡ xorWith b₀ (take j (drop at m))) × (length b₀ ≡ 160) × (out ≡ putBytes out₀ to (b₀ ⊕₈ take j (drop at m))) × (length out ≡ length out₀)
 
 abbrev μ-loop : tie.MeasureT-loop
 μ-loop m at n frame out₀ to b₀ j₀ out b j = n - j
@@ -33,12 +33,12 @@ loop-again c =
     let y = getD (a .m .now) (a .at + l .loop .j) 0 in
     let p = take (l .loop .j) (drop (a .at) (a .m .now)) in
     let lp : length (take (l .loop .j) (drop (a .at) (a .m .now))) ≡ l .loop .j = length-part (a .m .now) (a .at) (l .loop .j) (omega arith) in
-    let lx : length (a .v ⊕ take (l .loop .j) (drop (a .at) (a .m .now))) ≡ l .loop .j = length-xor (a .v) p (omega arith) ∙ lp in (
+    let lx : length (a .v ⊕₈ take (l .loop .j) (drop (a .at) (a .m .now))) ≡ l .loop .j = length-xor (a .v) p (omega arith) ∙ lp in (
       omega arith,
       xor-with-more (a .m .now) (a .at) (l .loop .j) (a .v) lv (omega arith) hd (l .loop .b) y (l .loop .inv .1) refl,
       lv,
       ap (λ (o : Bytes). set o (a .to + l .loop .j) (bitXor (getD (l .loop .b) (l .loop .j) 0) y)) (l .loop .inv .3)
-          ∙ put-snoc (a .out .now) (a .to) (a .v ⊕ p) (a .to + l .loop .j) _ (omega arith) (omega arith)
+          ∙ put-snoc (a .out .now) (a .to) (a .v ⊕₈ p) (a .to + l .loop .j) _ (omega arith) (omega arith)
           ∙ ap (putBytes (a .out .now) (a .to)) (sym (xor-more (a .m .now) (a .at) (l .loop .j) (a .v) lv (omega arith) hd (l .loop .b) (l .loop .inv .1))),
       simp length-set (l .loop .inv .4),
     )
@@ -55,7 +55,7 @@ returns c =
     let lv : length (a .v) ≡ 160 = l .loop .inv .2 in (
       padded (a .v) (take (a .n) (drop (a .at) (a .m .now))) (l .loop .b) (a .n) (a .frame) _ lp (omega arith)
           (l .loop .inv .1 ∙ ap (λ (k : ℕ). xorWith (a .v) (take k (drop (a .at) (a .m .now)))) e) (c .finish-bytes .ensures),
-      l .loop .inv .3 ∙ ap (λ (k : ℕ). putBytes (a .out .now) (a .to) (a .v ⊕ take k (drop (a .at) (a .m .now)))) e,
+      l .loop .inv .3 ∙ ap (λ (k : ℕ). putBytes (a .out .now) (a .to) (a .v ⊕₈ take k (drop (a .at) (a .m .now)))) e,
     )
 
 pub encrypt-bytes-spec : {M : Type 1} → statement M

@@ -9,7 +9,7 @@ use Rattle.bytes_le.specs.Bytes.{Bytes, putBytes}
 use Rattle.state_bytes.specs.StateBytes.{bytesOf}
 use Rattle.bytes_le.proofs.Laws.{put-none}
 use Rattle.state_bytes.proofs.Lengths.{length-bytes}
-use Rattle.icepole.specs.Sealing.{_⊕_, absorb, absorbMessage, encrypt}
+use Rattle.icepole.specs.Sealing.{_⊕₈_, absorb, absorbMessage, encrypt}
 use Rattle.icepole.proofs.Blocks.{length-encrypt}
 use Rattle.icepole.proofs.Turns.{encrypt-end, encrypt-turn, message-end, message-turn}
 use Rattle.icepole.proofs.encrypt_message.Statement.{statement}
@@ -57,7 +57,7 @@ returns c =
       message-end r (omega arith) (a .m .now) (l .loop .at) s _ _ _ refl (i .loop-test .left) (l .loop .inv .1)
           (q .ensures .0 ∙ ap (λ (b : Bytes). absorb b (take k (drop (l .loop .at) (a .m .now))) 0) z),
       encrypt-end r (omega arith) (a .m .now) (l .loop .at) (omega arith) s (length-bytes (l .loop .s)) (a .out .now) (l .loop .out) _ (encrypt r v (a .m .now)) (a .to) lc (omega arith) (l .loop .inv .3) _ (l .loop .inv .0) refl (i .loop-test .left) (l .loop .inv .2)
-          (q .ensures .1 ∙ ap (λ (b : Bytes). putBytes (l .loop .out) (a .to + l .loop .at) (b ⊕ take k (drop (l .loop .at) (a .m .now)))) z),
+          (q .ensures .1 ∙ ap (λ (b : Bytes). putBytes (l .loop .out) (a .to + l .loop .at) (b ⊕₈ take k (drop (l .loop .at) (a .m .now)))) z),
     )
 
 pub encrypt-message-spec : {M : Type 1} → statement M

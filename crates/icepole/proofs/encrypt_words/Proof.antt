@@ -11,7 +11,7 @@ use Rattle.bytes_le.proofs.Laws.{put-none}
 use Rattle.state_bytes.proofs.Lengths.{length-bytes}
 use Rattle.state_bytes.proofs.View.{shape}
 use Rattle.state_bytes.proofs.Words.{Shape, shape-set-word}
-use Rattle.icepole.specs.Sealing.{_⊕_, xorWith}
+use Rattle.icepole.specs.Sealing.{_⊕₈_, xorWith}
 use Rattle.icepole.proofs.Full.{full, word-out, word-xor-with}
 use Rattle.icepole.proofs.Steps.{length-part}
 use Rattle.icepole.proofs.Xor.{xor-none}
@@ -19,7 +19,7 @@ use Rattle.icepole.proofs.encrypt_words.Statement.{statement}
 use Rattle.icepole.proofs.encrypt_words.Tie as tie
 
 abbrev Inv-loop : tie.InvT-loop
-Inv-loop m at n out₀ to t₀ w₀ out t w = (w ≤ n) × (bytesOf t ≡ xorWith (bytesOf t₀) (take (8 * w) (drop at m))) × Shape t × (out ≡ putBytes out₀ to (bytesOf t₀ ⊕ take (8 * w) (drop at m))) × (length out ≡ length out₀)
+Inv-loop m at n out₀ to t₀ w₀ out t w = (w ≤ n) × (bytesOf t ≡ xorWith (bytesOf t₀) (take (8 * w) (drop at m))) × Shape t × (out ≡ putBytes out₀ to (bytesOf t₀ ⊕₈ take (8 * w) (drop at m))) × (length out ≡ length out₀)
 
 abbrev μ-loop : tie.MeasureT-loop
 μ-loop m at n out₀ to t₀ w₀ out t w = n - w
@@ -54,7 +54,7 @@ returns c =
     let lp : length (take (8 * a .n) (drop (a .at) (a .m .now))) ≡ 8 * a .n = length-part (a .m .now) (a .at) (8 * a .n) (omega arith) in (
       full (l .loop .t) (l .loop .inv .2) (a .n) (omega arith) (bytesOf (a .s)) (take (8 * a .n) (drop (a .at) (a .m .now))) lv lp 1 (omega arith) _
           (l .loop .inv .1 ∙ ap (λ (k : ℕ). xorWith (bytesOf (a .s)) (take (8 * k) (drop (a .at) (a .m .now)))) e) (c .finish-words .ensures),
-      l .loop .inv .3 ∙ ap (λ (k : ℕ). putBytes (a .out .now) (a .to) (bytesOf (a .s) ⊕ take (8 * k) (drop (a .at) (a .m .now)))) e,
+      l .loop .inv .3 ∙ ap (λ (k : ℕ). putBytes (a .out .now) (a .to) (bytesOf (a .s) ⊕₈ take (8 * k) (drop (a .at) (a .m .now)))) e,
     )
 
 pub encrypt-words-spec : {M : Type 1} → statement M

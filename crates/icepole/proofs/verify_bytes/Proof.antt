@@ -5,14 +5,14 @@ use Prim.Native.Nat.{ℕ, _+_, _-_, _<_, _≤_}
 use native.Mathlib.Omega.{arith}
 use borrow.Author.Needs.{needs}
 use lib.ListN.{length, take, drop}
-use Rattle.icepole.specs.Sealing.{_⊕_, xorWith}
+use Rattle.icepole.specs.Sealing.{_⊕₈_, xorWith}
 use Rattle.icepole.proofs.Steps.{length-part, padded, set-more, xor-with-none}
 use Rattle.icepole.proofs.Xor.{length-xor}
 use Rattle.icepole.proofs.verify_bytes.Statement.{statement}
 use Rattle.icepole.proofs.verify_bytes.Tie as tie
 
 abbrev Inv-loop : tie.InvT-loop
-Inv-loop c at n frame b₀ j₀ b j = (j ≤ n) × (b ≡ xorWith b₀ (b₀ ⊕ take j (drop at c))) × (length b₀ ≡ 160)
+Inv-loop c at n frame b₀ j₀ b j = (j ≤ n) × (b ≡ xorWith b₀ (b₀ ⊕₈ take j (drop at c))) × (length b₀ ≡ 160)
 
 abbrev μ-loop : tie.MeasureT-loop
 μ-loop c at n frame b₀ j₀ b j = n - j
@@ -38,8 +38,8 @@ returns c =
     let e : l .loop .j ≡ a .n = omega arith in
     let lp : length (take (a .n) (drop (a .at) (a .c .now))) ≡ a .n = length-part (a .c .now) (a .at) (a .n) (omega arith) in
     let lv : length (a .v) ≡ 160 = l .loop .inv .2 in
-    padded (a .v) (a .v ⊕ take (a .n) (drop (a .at) (a .c .now))) (l .loop .b) (a .n) (a .frame) _ (length-xor (a .v) _ (omega arith) ∙ lp) (omega arith)
-    (l .loop .inv .1 ∙ ap (λ (k : ℕ). xorWith (a .v) (a .v ⊕ take k (drop (a .at) (a .c .now)))) e) (c .finish-bytes .ensures)
+    padded (a .v) (a .v ⊕₈ take (a .n) (drop (a .at) (a .c .now))) (l .loop .b) (a .n) (a .frame) _ (length-xor (a .v) _ (omega arith) ∙ lp) (omega arith)
+    (l .loop .inv .1 ∙ ap (λ (k : ℕ). xorWith (a .v) (a .v ⊕₈ take k (drop (a .at) (a .c .now)))) e) (c .finish-bytes .ensures)
 
 pub verify-bytes-spec : {M : Type 1} → statement M
 verify-bytes-spec =

@@ -9,7 +9,7 @@ use types.Run.{from}
 use Rattle.bytes_le.specs.Bytes.{Bytes}
 use Rattle.state_bytes.specs.StateBytes.{bytesOf}
 use Rattle.state_bytes.proofs.Lengths.{length-bytes}
-use Rattle.icepole.specs.Sealing.{_⊕_, absorb, absorbMessage, decrypt}
+use Rattle.icepole.specs.Sealing.{_⊕₈_, absorb, absorbMessage, decrypt}
 use Rattle.icepole.proofs.Steps.{length-part}
 use Rattle.icepole.proofs.Turns.{checked-end, checked-turn, window}
 use Rattle.icepole.proofs.verify_message.Statement.{statement}
@@ -35,7 +35,7 @@ loop-again c =
     let ld : length (take (a .l) (drop (a .from) (a .c .now))) ≡ a .l = length-part (a .c .now) (a .from) (a .l) (omega arith) in (
       omega arith,
       checked-turn r (omega arith) d (l .loop .at) (omega arith) s (length-bytes (l .loop .s)) _ _ (rw ld (i .loop-test .taken)) (l .loop .inv .1)
-          (c .verify-full .ensures ∙ ap (λ (b : Bytes). absorb s (s ⊕ b) 1) (window (a .c .now) (a .from) (a .l) (l .loop .at) r (omega arith) (omega arith))),
+          (c .verify-full .ensures ∙ ap (λ (b : Bytes). absorb s (s ⊕₈ b) 1) (window (a .c .now) (a .from) (a .l) (l .loop .at) r (omega arith) (omega arith))),
     )
 
 returns : tie.Need-returns Inv-loop μ-loop
@@ -50,7 +50,7 @@ returns c =
     let d : Bytes = take (a .l) (drop (a .from) (a .c .now)) in
     let ld : length (take (a .l) (drop (a .from) (a .c .now))) ≡ a .l = length-part (a .c .now) (a .from) (a .l) (omega arith) in
     checked-end r (omega arith) d (l .loop .at) (omega arith) s (length-bytes (l .loop .s)) _ _ k (rw ld refl) (i .loop-test .left) (l .loop .inv .1)
-    (c .verify-bytes .ensures ∙ ap₂ (λ (s b : Bytes). absorb s (s ⊕ b) 0) z (window (a .c .now) (a .from) (a .l) (l .loop .at) (a .l - l .loop .at) (omega arith) (omega arith)))
+    (c .verify-bytes .ensures ∙ ap₂ (λ (s b : Bytes). absorb s (s ⊕₈ b) 0) z (window (a .c .now) (a .from) (a .l) (l .loop .at) (a .l - l .loop .at) (omega arith) (omega arith)))
 
 pub verify-message-spec : {M : Type 1} → statement M
 verify-message-spec =
