@@ -50,6 +50,14 @@ first_errors_tried() {
     done
 }
 
+# The look for unused imports, by short files of both kinds.
+unused_imports_tried() {
+    sh scripts/unused_imports.sh tests/unused_imports/used.* || return 1
+    for file in tests/unused_imports/unused_*; do
+        ! sh scripts/unused_imports.sh "$file" >/dev/null || { echo "$file passes"; return 1; }
+    done
+}
+
 # The sums over cargo's lines 'test result: ok. N passed; M failed; ..', of the workspace in a folder.
 rust_tests() {
     log=build/cargo-$(basename "$1").log
@@ -165,6 +173,8 @@ lib() {
 mkdir -p build
 step "every crate is listed" crates_listed
 step "rt fmt --check" rt fmt --check
+step "every import is used" sh scripts/unused_imports.sh
+step "and one that is not is seen" unused_imports_tried
 prove
 step "must-fail edits are refused on a fact" sh scripts/first_errors.sh
 step "and those that are not are seen" first_errors_tried

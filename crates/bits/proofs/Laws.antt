@@ -137,12 +137,3 @@ bit-number (suc k) f (suc z) l =
     bit-suc (digit (f 0) + 2 * number k (λ z. f (suc z))) z
     ∙ ap (λ (n : ℕ). bit n z) (half-of (f 0) (number k (λ z. f (suc z))))
     ∙ bit-number k (λ z. f (suc z)) z (le-of-suc-le-suc l)
-
-doubled : (b : Bool) (n m : ℕ) → n < m → digit b + 2 * n < m * 2
-doubled false n m h = omega arith
-doubled true n m h = omega arith
-
-pub number-below : (k : ℕ) (f : ℕ → Bool) → number k f < 2 ^ k
-unfolding number
-number-below zero f = zero-lt-suc 0
-number-below (suc k) f = rw pow-suc (doubled (f 0) (number k (λ z. f (suc z))) (2 ^ k) (number-below k (λ z. f (suc z))))

@@ -1,7 +1,7 @@
 -- Exclusive or of bits: the laws by which `simp xors` puts a sum of bits in order and cancels what stands twice.
 -- Assumes nothing.
 use mathlib.Core.Path.{_≡_, refl, sym, ap, _∙_}
-use mathlib.Core.Bool.{Bool, true, false, not, _&&_}
+use mathlib.Core.Bool.{Bool, true, false, _&&_}
 use Rattle.bits.specs.Bits.{_⊕_}
 
 pub xor-false : (a : Bool) → a ⊕ false ≡ a

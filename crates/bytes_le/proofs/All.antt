@@ -1,7 +1,7 @@
 -- Runs of bytes that are below 256: what makes and keeps them.
 -- Assumes nothing.
-use mathlib.Core.List.{List, [], _∷_, _++_}
-use Prim.Native.Nat.{ℕ, zero, suc, _/_, _<_}
+use mathlib.Core.List.{[], _∷_, _++_}
+use Prim.Native.Nat.{ℕ, zero, suc, _/_}
 use native.Mathlib.Nat.{mod-lt, zero-lt-suc}
 use lib.ListN.{take, drop}
 use Rattle.bytes_le.specs.Bytes.{Bytes, AllBytes, le}

@@ -4,9 +4,9 @@ use mathlib.Core.Path.{_≡_, refl, sym, ap, _∙_, ap₂}
 use mathlib.Core.List.{List, [], _∷_, _++_, append-assoc, append-nil}
 use Prim.Native.Nat.{ℕ, zero, suc, _+_, _-_, _/_, _≤_, _<_}
 use native.Mathlib.Omega.{arith}
-use native.Mathlib.Nat.{add-assoc, zero-add, add-zero}
-use lib.ListN.{length, take, drop, length-append, length-drop, take-append-drop, set, drop-of-length-le, getD}
-use lib.Seq.{length-take-le, take-append-le, drop-append-le, drop-append-add, take-take, drop-drop, take-at, drop-at, sets, sets-eq, set-at, drop-cons}
+use native.Mathlib.Nat.{add-assoc, zero-add}
+use lib.ListN.{length, take, drop, length-append, length-drop, take-append-drop, set, drop-of-length-le}
+use lib.Seq.{length-take-le, take-append-le, drop-append-le, drop-append-add, drop-drop, take-at, drop-at, sets, sets-eq, set-at, drop-cons}
 use Rattle.bytes_le.specs.Bytes.{Bytes, le, putBytes, unle}
 
 pub length-le : (n x : ℕ) → length (le n x) ≡ n
@@ -44,12 +44,6 @@ unfolding putBytes
 take-put l at vs n e h =
     ap (take n) (sym (append-assoc (take at l) vs (drop (at + length vs) l)))
     ∙ take-at (take at l ++ vs) (drop (at + length vs) l) n (simp (length-append, length-take-le at l h) (sym e))
-
--- what stands in front of where it was put
-pub take-put-le : (l : List ℕ) (at : ℕ) (vs : List ℕ) (n : ℕ) → n ≤ at → at ≤ length l → take n (putBytes l at vs) ≡ take n l
-unfolding putBytes
-take-put-le l at vs n h g =
-    take-append-le n (take at l) (vs ++ drop (at + length vs) l) (rw (length-take-le at l g) h) ∙ take-take n at l h
 
 -- a callee that was lent `l[at..]` and put vs at its front
 pub put-part : (l : List ℕ) (at : ℕ) (vs : List ℕ) (k : ℕ) → at + length vs ≤ length l → k ≡ length l - at

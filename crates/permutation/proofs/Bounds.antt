@@ -3,7 +3,6 @@
 use mathlib.Core.List.{List, [], _∷_}
 use Prim.Native.Nat.{ℕ, zero, suc, _^_, _<_}
 use lib.Dec.{lit<}
-use lib.ListN.{getD}
 use mir.Syntax.{w64}
 use mir.Val.{Val}
 use denote.Array.{Array, each}

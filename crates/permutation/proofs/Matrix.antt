@@ -1,10 +1,9 @@
 -- μ on whole words is the matrix on each slice.
 -- Assumes nothing.
 use mathlib.Core.Path.{_≡_}
-use mathlib.Core.List.{List, [], _∷_}
+use mathlib.Core.List.{[], _∷_}
 use Prim.Native.Nat.{ℕ, _^_, _<_}
 use lib.ListN.{getD}
-use Rattle.bits.specs.Bits.{bit}
 use Rattle.bits.proofs.Laws.{bit-xor}
 use Rattle.bits.proofs.Xor.{xors}
 use Rattle.permutation.specs.State.{State, at, slice}

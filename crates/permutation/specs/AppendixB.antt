@@ -1,6 +1,6 @@
 -- The equations of μ, in the order printed (003, Appendix B). `proofs/AppendixB.antt` shows that they agree with the matrix.
 -- Assumes nothing.
-use mathlib.Core.Bool.{Bool, true, false, cond, _&&_}
+use mathlib.Core.Bool.{Bool, false, cond, _&&_}
 use mathlib.Core.List.{List, [], _∷_}
 use Prim.Native.Nat.{ℕ}
 use lib.Dec.{eqb}

@@ -1,11 +1,11 @@
 -- `permutation::mu` meets its contract: the rows are put together from what the calls ensure, and agree with the matrix.
 -- Assumes nothing.
-use mathlib.Core.Path.{_≡_, ap, ap₂, _∙_}
+use mathlib.Core.Path.{ap, ap₂, _∙_}
 use mathlib.Core.List.{[], _∷_}
 use lib.ListN.{getD}
 use borrow.Author.Needs.{needs}
 use Rattle.permutation.specs.State.{State}
-use Rattle.permutation.specs.Words.{Column, sum2Words, sum3Words, twiceWords, times18Words}
+use Rattle.permutation.specs.Words.{Column, sum2Words, sum3Words, times18Words}
 use Rattle.permutation.proofs.Bounds.{words}
 use Rattle.permutation.proofs.Matrix.{mu-agrees}
 use Rattle.permutation.proofs.mu.Statement.{statement}

@@ -1,6 +1,6 @@
 -- `permutation_bench::bench_p6` meets its contract. The loop's invariant: after i turns the state is P6 of the seeded state, i times over.
 -- Assumes nothing.
-use mathlib.Core.Path.{_≡_, refl, sym, ap, _∙_}
+use mathlib.Core.Path.{_≡_, sym, ap, _∙_}
 use Prim.Native.Nat.{ℕ, _≤_, _-_}
 use native.Mathlib.Omega.{arith}
 use native.Mathlib.Numerals.{add-one}
