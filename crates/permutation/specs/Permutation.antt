@@ -5,7 +5,7 @@ use mathlib.Core.List.{List, [], _∷_, foldr}
 use Prim.Native.Nat.{ℕ, zero, suc, _+_, _-_, _%_}
 use lib.Bits.{bitXor}
 use lib.ListN.{getD}
-use Rattle.bits.specs.Bits.{_⊕_, bit, word}
+use Rattle.bits.specs.Bits.{_⊕_, bit, wordLength, word}
 use Rattle.permutation.specs.Field.{Element, element, sum, _·_}
 use Rattle.permutation.specs.State.{Grid, State, tabulate, at, setWord, state, slice}
 
@@ -36,7 +36,7 @@ offsets =
 
 -- w rotated left by k: bit z moves to (z + k) mod 64, so that bit z of the result is bit (z - k) mod 64 of w (k at most 64)
 unfoldable pub rotl : ℕ → ℕ → ℕ
-rotl w k = word (λ z. bit w ((z + (64 - k)) % 64))
+rotl w k = word (λ z. bit w ((z + (wordLength - k)) % wordLength))
 
 abbrev pub ρ : State → State
 ρ s = state (λ x y. rotl (at s x y) (at offsets x y))

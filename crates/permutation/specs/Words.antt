@@ -1,9 +1,10 @@
 -- What private functions do on whole words, 64 bit positions at once. No public contract and no claim names this file: `proofs/` leads from it to `Permutation`.
 -- Assumes nothing.
 use mathlib.Core.List.{List, [], _∷_}
-use Prim.Native.Nat.{ℕ, _+_, _-_, _%_, _^_}
+use Prim.Native.Nat.{ℕ, _+_, _-_, _%_}
 use lib.Bits.{bitXor, bitAnd, bitOr}
 use lib.ListN.{getD}
+use Rattle.bits.specs.Bits.{wordRange}
 use Rattle.permutation.specs.State.{State, tabulate}
 use Rattle.permutation.specs.Permutation.{rotl, μ, ρ, π, ψ, addConstant}
 
@@ -17,7 +18,7 @@ a & b = bitAnd a b
 
 -- the complement of a word
 abbrev pub ~ : ℕ → ℕ
-~ a = (2 ^ 64 - 1) - a
+~ a = (wordRange - 1) - a
 
 -- five words
 abbrev pub Column : Type 0

@@ -2,6 +2,7 @@
 ghost use mathlib.Core.Path.{_≡_};
 ghost use Prim.Native.Nat.{_≤_, _<_};
 ghost use lib.ListN.{getD};
+ghost use Rattle.bits.specs.Bits.{wordLength};
 ghost use Rattle.permutation.specs.Permutation.{μ, ρ, π, ψ, P, rotl, addConstant, start};
 ghost use Rattle.permutation.specs.Words.{twiceWords, times18Words, sum2Words, sum3Words, rotlColumn, sboxWords, roundWith};
 
@@ -125,7 +126,7 @@ fn mu(s: State) -> State
 
 // w rotated left by k.
 fn rotate(w: u64, k: u32) -> u64
-    requires { ⌜ k < 64 ⌝ }
+    requires { ⌜ k < wordLength ⌝ }
     ensures { λ r. ⌜ r ≡ rotl w k ⌝ }
 {
     if k == 0 {
@@ -136,7 +137,7 @@ fn rotate(w: u64, k: u32) -> u64
 
 // The words of a column, each rotated left by its offset.
 fn rotate_column(w: Column, k: [u32; 5]) -> Column
-    requires { ⌜ (getD k 0 0 < 64) × (getD k 1 0 < 64) × (getD k 2 0 < 64) × (getD k 3 0 < 64) × (getD k 4 0 < 64) ⌝ }
+    requires { ⌜ (getD k 0 0 < wordLength) × (getD k 1 0 < wordLength) × (getD k 2 0 < wordLength) × (getD k 3 0 < wordLength) × (getD k 4 0 < wordLength) ⌝ }
     ensures { λ r. ⌜ r ≡ rotlColumn w k ⌝ }
 {
     [
