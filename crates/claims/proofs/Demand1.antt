@@ -2,7 +2,7 @@
 -- Assumes nothing.
 use mathlib.Core.Bool.{Bool, true, false, cond, not, _||_, _&&_}
 use mathlib.Core.List.{List, [], _∷_}
-use mathlib.Core.Logic.{_⊎_, inl, inr, _≢_}
+use mathlib.Core.Logic.{_⊎_, inl, inr, ⊎-elim, _≢_}
 use mathlib.Core.Path.{_≡_, refl, sym, ap, subst, _∙_}
 use Prim.Native.Nat.{ℕ, suc, _+_, _-_, _≤_, _<_}
 use native.Mathlib.Omega.{arith}
@@ -134,10 +134,22 @@ module _ (v : Variant) (key nonce ad c : Bytes) where
       }
 
 -- ---- strips
+-- a start is turned down as sealing no message is, and no room for the tag is needed
+no-message : (a : ℕ) → Tells (ltb maxLength a || ltb maxLength 0) (maxLength < a)
+no-message a =
+    let t = either (less maxLength a) (less maxLength 0) in
+    record {
+      yes = λ h. ⊎-elim (λ (l : maxLength < a). l) (λ (l : maxLength < 0). absurd (omega arith)) (t .yes h);
+      no′ = λ h l. t .no′ h (inl l);
+    }
+
+beside-tag : (o : ℕ) → Tells (ltb (o + 16) (16 + (0 + 16))) (o < 16)
+beside-tag o = let t = less (o + 16) (16 + (0 + 16)) in record { yes = λ h. let l = t .yes h in omega arith; no′ = λ h l. t .no′ h (omega arith) }
+
 start-number : StartNumber
-unfolding startNumber
+unfolding startNumber sealNumber
 start-number k n s a o =
-    by-tests (row 1 (differs k 16) ∷ row 2 (differs n 16) ∷ row 3 (differs s 16) ∷ row 4 (less maxLength a) ∷ row 5 (less o 16) ∷ [])
+    by-tests (row 1 (differs k 16) ∷ row 2 (differs n 16) ∷ row 3 (differs s 16) ∷ row 4 (no-message a) ∷ row 5 (beside-tag o) ∷ [])
 
 module _ (key nonce secret ad out : Bytes) where
   start-order : FirstOf (startRefusal key nonce secret ad out) (orderOfStart (length key) (length nonce) (length secret) (length ad) (length out))

@@ -3,7 +3,7 @@
 use mathlib.Core.Path.{refl}
 use Rattle.bits.specs.Bits.{bit, number}
 use Rattle.permutation.specs.Permutation.{μ, rotl}
-use Rattle.state_bytes.specs.StateBytes.{stateOf}
+use Rattle.state_bytes.specs.StateBytes.{column, stateOf}
 use Rattle.icepole.specs.Answers.{sealNumber, openNumber}
 use Rattle.burst.specs.Editions.{numbered, written}
 use Rattle.burst.specs.Parts.{nonceOf}
@@ -20,5 +20,5 @@ use Rattle.listing.specs.Listing.{frontLines, headLines, listing, shotLine, sho
 use Rattle.claims.specs.Marked.{MarkedHold}
 
 pub marked-hold : MarkedHold
-unfolding numbered written headerRest restRules frontRulesOf bit number μ rotl stateOf sealNumber openNumber headerBytes nonceOf entryBytes beginNumber keepNumber dropNumber closeNumber totalOf headerOf indexOf numberOf accepted valueOf afterCall answerOf begun plainOf plainAnswers leAt entryRules indexRules entriesAt frontRules checkRefusal recordRefusal fetchRefusal startNumber stripNumber endNumber decimal frontLines headLines listing shotLine shotLines
+unfolding numbered written headerRest restRules frontRulesOf bit number μ rotl stateOf column sealNumber openNumber headerBytes nonceOf entryBytes beginNumber keepNumber dropNumber closeNumber totalOf headerOf indexOf numberOf accepted valueOf afterCall answerOf begun plainOf plainAnswers leAt entryRules indexRules entriesAt frontRules checkRefusal recordRefusal fetchRefusal startNumber stripNumber endNumber decimal frontLines headLines listing shotLine shotLines
 marked-hold = refl

@@ -13,10 +13,10 @@ use lib.ListN.{length, getD, take, drop, List·getD-append, length-append, List�
 use lib.Pow.{shr-shr}
 use lib.Seq.{getD-take, getD-drop, getD-append-seam}
 use Rattle.bits.specs.Bits.{bit, _⊕_}
-use Rattle.bytes_le.specs.Bytes.{Bytes, AllBytes, le, unle}
+use Rattle.bytes_le.specs.Bytes.{Bytes, AllBytes, le, leAt, unle}
 use Rattle.icepole.specs.Sealing.{_⊕₈_, pad, xorWith}
 use Rattle.permutation.specs.State.{at, state, tabulate}
-use Rattle.state_bytes.specs.StateBytes.{bytesOf, stateOf, wordOf}
+use Rattle.state_bytes.specs.StateBytes.{bytesOf, column, stateOf, wordOf}
 use Rattle.bits.proofs.Cases.{two}
 use Rattle.bits.proofs.Laws.{bit-low, bit-shr, bit-xor}
 use Rattle.bytes_le.proofs.All.{all-take, all-drop}
@@ -97,7 +97,7 @@ paper-bit S x y z hx hy hz =
 
 -- and back
 bit-back : (v : Bytes) → AllBytes v → (x y z : ℕ) → x < 4 → y < 5 → z < 64 → bit (at (stateOf v) x y) z ≡ bitOf v (64 * (x + 4 * y) + z)
-unfolding stateOf
+unfolding stateOf column leAt
 bit-back v h x y z hx hy hz =
     let w = x + 4 * y in
     let word : ℕ → ℕ → ℕ = λ x y. unle (take 8 (drop (8 * (x + 4 * y)) v)) in

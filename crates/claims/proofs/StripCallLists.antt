@@ -14,12 +14,16 @@ use Rattle.bytes_le.proofs.Laws.{put-front, unle-8}
 use Rattle.icepole.specs.Answers.{maxLength, unless}
 use Rattle.strips.specs.declared.StripState.{StripState}
 use Rattle.strips.specs.declared.StripAnswer.{StripAnswer}
-use Rattle.strips.specs.Answers.{endAnswer, endOutput, endRefusal, heldIn, notStarted, startAnswer, startOutput, started, stripAnswer, stripOutput, stripRefusal}
+use Rattle.strips.specs.Answers.{endAnswer, endOutput, endRefusal, heldIn, notStarted, startAnswer, startOutput, started, stripAnswer, stripOutput}
+use Rattle.strips.specs.Answers.{stripRefusal}
 use Rattle.strips.proofs.Machine.{length-fed-state}
 use Rattle.strips.proofs.Numbers.{strip-fits}
-use Rattle.icepole_c.specs.Strips.{flag, stripStateBytes, stripStateIn, startCallRefusal, startCallOutput, startCallState, stripCallRefusal, stripCallOutput, stripCallState, endCallRefusal, endCallOutput, endCallState}
+use Rattle.icepole_c.specs.Strips.{flag, stripStateLength, stripStateBytes, stripStateIn, startCallRefusal, startCallOutput, startCallState, stripCallRefusal}
+use Rattle.icepole_c.specs.Strips.{stripCallOutput, stripCallState, endCallRefusal, endCallOutput, endCallState}
 use Rattle.icepole_c.proofs.StripCalls.{end-short, start-number, start-short, start-short-refused, strip-short, twice}
-use Rattle.claims.specs.StripLists.{Call, StatePasses, StripCallLists, StripList, Told, answerTo, endOf, lentTo, numberC, numbersFromC, outputC, outputOf, outputsFrom, outputsFromC, runNumbersC, runOutputs, runOutputsC, runSliceC, runState, runTold, sliceC, sliceFromC, startNumberOf, startSliceC, startTo, stateFrom, stripOf, toldFrom}
+use Rattle.claims.specs.StripLists.{Call, StatePasses, StripCallLists, StripList, Told, answerTo, endOf, lentTo, numberC, numbersFromC, outputC, outputOf}
+use Rattle.claims.specs.StripLists.{outputsFrom, outputsFromC, runNumbersC, runOutputs, runOutputsC, runSliceC, runState, runTold, sliceC, sliceFromC}
+use Rattle.claims.specs.StripLists.{startNumberOf, startSliceC, startTo, stateFrom, stripOf, toldFrom}
 use Rattle.claims.proofs.StripLists.{afterState, answer-is, hu, numberBy, start-is, turned}
 
 -- ---- a state passes from call to call
@@ -54,16 +58,16 @@ state-passes b s hb hv hc =
     flagged true = refl
     flagged false = refl
 
--- ---- the slice: a state's 169 bytes, and then what b has there
+-- ---- the slice: a state's bytes, and then what b has there
 abbrev slice : StripState → Bytes → Bytes
-slice s b = stripStateBytes s ++ drop 169 b
+slice s b = stripStateBytes s ++ drop stripStateLength b
 
 -- what holds of every state of a list
 record Good (s : StripState) : Type 0 where
   bytes : length (s .bytes) ≡ 160
   count : s .count ≤ maxLength
 
-length-state : (s : StripState) → Good s → length (stripStateBytes s) ≡ 169
+length-state : (s : StripState) → Good s → length (stripStateBytes s) ≡ stripStateLength
 length-state s g = length-append (s .bytes) (le 8 (s .count) ++ le 1 (flag (s .finished))) ∙ ap (λ (k : ℕ). k + 9) (g .bytes)
 
 put-is : (b : Bytes) (s : StripState) → Good s → putBytes b 0 (stripStateBytes s) ≡ slice s b
@@ -71,7 +75,7 @@ put-is b s g = put-front b (stripStateBytes s) ∙ ap (λ (n : ℕ). stripStateB
 
 put-over : (b : Bytes) (s s′ : StripState) → Good s → Good s′ → putBytes (slice s b) 0 (stripStateBytes s′) ≡ slice s′ b
 put-over b s s′ g g′ =
-    put-is (slice s b) s′ g′ ∙ ap (λ (r : Bytes). stripStateBytes s′ ++ r) (drop-at (stripStateBytes s) (drop 169 b) 169 (length-state s g))
+    put-is (slice s b) s′ g′ ∙ ap (λ (r : Bytes). stripStateBytes s′ ++ r) (drop-at (stripStateBytes s) (drop stripStateLength b) stripStateLength (length-state s g))
 
 -- ---- the states of a list are good
 good-along : (s s′ : StripState) → s′ ≡ s → Good s → Good s′
@@ -111,8 +115,8 @@ good-start l = by (startNumberOf l) refl
         (record { bytes = refl; count = omega arith })
 
 -- ---- one call, lent the slice with the state s
-module _ (b : Bytes) (hb : 169 ≤ length b) (s : StripState) (g : Good s) where
-  room : 169 ≤ length (slice s b)
+module _ (b : Bytes) (hb : stripStateLength ≤ length b) (s : StripState) (g : Good s) where
+  room : stripStateLength ≤ length (slice s b)
   room = let l = length-state s g in rw length-append (omega (arith, l))
 
   reads : stripStateIn (slice s b) ≡ s
@@ -120,8 +124,8 @@ module _ (b : Bytes) (hb : 169 ≤ length b) (s : StripState) (g : Good s) where
 
   number-is : (c : Call) → numberC (slice s b) c ≡ numberBy s c
   unfolding numberC stripCallRefusal endCallRefusal stripRefusal endRefusal numberBy
-  number-is (stripOf m o) = simp (le-ltb (length (slice s b)) 169 room) (ap (λ (s : StripState). stripRefusal s m o) reads)
-  number-is (endOf o) = simp (le-ltb (length (slice s b)) 169 room) (ap (λ (s : StripState). endRefusal s o) reads)
+  number-is (stripOf m o) = simp (le-ltb (length (slice s b)) stripStateLength room) (ap (λ (s : StripState). stripRefusal s m o) reads)
+  number-is (endOf o) = simp (le-ltb (length (slice s b)) stripStateLength room) (ap (λ (s : StripState). endRefusal s o) reads)
 
   output-is : (c : Call) → outputC (slice s b) c ≡ outputOf s c
   unfolding outputC stripCallOutput endCallOutput outputOf stripOutput stripRefusal endOutput endRefusal numberC numberBy
@@ -150,7 +154,7 @@ module _ (b : Bytes) (hb : 169 ≤ length b) (s : StripState) (g : Good s) where
       by (suc n) e = ap (λ (n : ℕ). unless n (slice s b) x) e ∙ turned n x (slice s b) ∙ ap (λ (s : StripState). slice s b) (sym (state-refused s c n e))
 
 -- ---- the calls after the start
-module _ (b : Bytes) (hb : 169 ≤ length b) where
+module _ (b : Bytes) (hb : stripStateLength ≤ length b) where
   numbers-from : (cs : List Call) (s : StripState) → Good s → numbersFromC (slice s b) cs ≡ map (λ (t : Told). t .number) (toldFrom s cs)
   numbers-from [] s g = refl
   numbers-from (c ∷ cs) s g =
@@ -169,10 +173,10 @@ module _ (b : Bytes) (hb : 169 ≤ length b) where
 
 -- ---- the whole list
 module _ (l : StripList) (st : Bytes) where
-  module _ (h : 169 ≤ length st) where
+  module _ (h : stripStateLength ≤ length st) where
     start-slice : startSliceC l st ≡ slice (startTo l .state) st
     unfolding startCallState
-    start-slice = simp (le-ltb (length st) 169 h) (put-is st (startTo l .state) (good-start l))
+    start-slice = simp (le-ltb (length st) stripStateLength h) (put-is st (startTo l .state) (good-start l))
 
     start-number-is : startCallRefusal (l .key) (l .nonce) (l .secret) (l .associated) (l .out) st ≡ startTo l .refusal
     unfolding startAnswer
@@ -196,12 +200,12 @@ module _ (l : StripList) (st : Bytes) where
         ap₂ (λ (o : Bytes) (os : List Bytes). o ∷ os) start-output-is
         (ap (λ (st : Bytes). outputsFromC st (l .calls)) start-slice ∙ outputs-from st h (l .calls) (startTo l .state) (good-start l))
 
-    list-slice : runSliceC l st ≡ stripStateBytes (runState l) ++ drop 169 st
+    list-slice : runSliceC l st ≡ stripStateBytes (runState l) ++ drop stripStateLength st
     unfolding runSliceC runState
     list-slice = ap (λ (st : Bytes). sliceFromC st (l .calls)) start-slice ∙ slice-from st h (l .calls) (startTo l .state) (good-start l)
 
   -- ---- too few bytes
-  module _ (h : length st < 169) where
+  module _ (h : length st < stripStateLength) where
     short-call : (c : Call) → (5 ≡ numberC st c) × (st ≡ sliceC st c) × (lentTo c ≡ outputC st c)
     unfolding numberC sliceC outputC
     short-call (stripOf m o) = strip-short st m o h

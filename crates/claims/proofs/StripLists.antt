@@ -14,17 +14,22 @@ use Rattle.bytes_le.proofs.Laws.{take-put}
 use Rattle.state_bytes.proofs.Lengths.{length-permuted}
 use Rattle.icepole.specs.declared.Variant.the-variants.{Icepole128}
 use Rattle.icepole.specs.Variants.{sizes}
-use Rattle.icepole.specs.Sealing.{_⊕₈_, keyed, ready, sealed}
+use Rattle.icepole.specs.Sealing.{_⊕₈_, finish, keyed, ready, sealed}
 use Rattle.icepole.specs.Answers.{maxLength, unless}
+use Rattle.icepole.proofs.Numbers.{SealFits}
 use Rattle.icepole.proofs.Opening.{length-keyed, length-ready}
 use Rattle.icepole.proofs.Xor.{length-xor}
 use Rattle.strips.specs.declared.StripState.{StripState}
 use Rattle.strips.specs.declared.StripAnswer.{StripAnswer}
-use Rattle.strips.specs.Machine.{Held, held, ended, fed, fedBytes, fillOf, finish}
-use Rattle.strips.specs.Answers.{afterEnd, afterStrip, answered, endAnswer, endNumber, endOutput, endRefusal, heldIn, notStarted, startAnswer, startOutput, startRefusal, started, stripAnswer, stripNumber, stripOutput, stripRefusal}
-use Rattle.claims.specs.StripLists.{AllDone, Call, StripList, Piece, PlainMessage, StripLists, Told, accepted, afterCall, afterCalls, answerTo, countOf, cut, endOf, joined, lentTo, numberOf, outputOf, outputsFrom, partOf, plainAnswer, plainFrom, plainOf, plainOutputs, plainOutputsFrom, plainStart, plainTold, runOutputs, runTold, runWritten, sealing, startNumberOf, startTo, stripOf, toldBy, toldFrom, writtenFrom}
+use Rattle.strips.specs.Machine.{Held, held, ended, fed, fedBytes, fillOf}
+use Rattle.strips.specs.Answers.{afterEnd, afterStrip, answered, endAnswer, endNumber, endOutput, endRefusal, heldIn, notStarted, startAnswer, startOutput}
+use Rattle.strips.specs.Answers.{startRefusal, started, stripAnswer, stripNumber, stripOutput, stripRefusal}
+use Rattle.claims.specs.StripLists.{AllDone, Call, StripList, Piece, PlainMessage, StripLists, Told, accepted, afterCall, afterCalls, answerTo, countOf}
+use Rattle.claims.specs.StripLists.{cut, endOf, joined, lentTo, numberOf, outputOf, outputsFrom, partOf, plainAnswer, plainFrom, plainOf, plainOutputs}
+use Rattle.claims.specs.StripLists.{plainOutputsFrom, plainStart, plainTold, runOutputs, runTold, runWritten, sealing, startNumberOf, startTo, stripOf}
+use Rattle.claims.specs.StripLists.{toldBy, toldFrom, writtenFrom}
 use Rattle.strips.proofs.Machine.{bytes-join, fed-fill, fed-join, length-fed, whole-bytes, whole-tag}
-use Rattle.strips.proofs.Numbers.{StartFits, end-0, end-14, end-open, over, start-accepted, start-fits, strip-0, strip-14, strip-fits, takes}
+use Rattle.strips.proofs.Numbers.{end-0, end-14, end-open, over, start-accepted, start-fits, strip-0, strip-14, strip-fits, takes}
 
 -- where the number is not 0
 pub turned : {A : Type 0} (n : ℕ) (a b : A) → cond (eqb (suc n) 0) a b ≡ b
@@ -301,7 +306,7 @@ module _ (l : StripList) where
       ap₂ (λ (c t : Bytes). sealedSecret ++ (c ++ t)) (sym (whole-bytes 128 (omega arith) (omega arith) m u hu)) (sym (whole-tag 128 (omega arith) (omega arith) m u hu))
 
   module _ (e : startNumberOf l ≡ 0) where
-    fits : StartFits (sizes Icepole128) (length (l .key)) (length (l .nonce)) (length (l .secret)) (length (l .associated)) (length (l .out))
+    fits : SealFits (sizes Icepole128) (length (l .key)) (length (l .nonce)) (length (l .secret)) (length (l .associated)) 0 (length (l .out) + 16)
     unfolding startRefusal
     fits = start-fits (sizes Icepole128) (length (l .key)) (length (l .nonce)) (length (l .secret)) (length (l .associated)) (length (l .out)) e
 
@@ -322,7 +327,9 @@ module _ (l : StripList) where
     unfolding Upto E
     upto-is p = by (p .finished)
       where
-        by : (f : Bool) → sealedSecret ++ cond f (E u (p .message) ++ T u (p .message)) (E u (p .message)) ≡ cond f (sealing l (p .message)) (take (16 + length (p .message)) (sealing l (p .message)))
+        by : (f : Bool)
+            → sealedSecret ++ cond f (E u (p .message) ++ T u (p .message)) (E u (p .message))
+            ≡ cond f (sealing l (p .message)) (take (16 + length (p .message)) (sealing l (p .message)))
         by true = sym (sealing-is (p .message))
         by false =
             sym
@@ -440,7 +447,8 @@ list-cut key nonce secret associated out end xs hk hn hs ha ho hm he = (subst Al
     l = record { key = key; nonce = nonce; secret = secret; associated = associated; out = out; calls = cut xs end }
 
     start-done : startNumberOf l ≡ 0
-    start-done = start-accepted (sizes Icepole128) (length key) (length nonce) (length secret) (length associated) (length out) (record { key = hk; nonce = hn; secret = hs; associated = ha; out = ho })
+    start-done = start-accepted (sizes Icepole128) (length key) (length nonce) (length secret) (length associated) (length out)
+        hk hn hs ha ho
 
     begun : startNumberOf l ≡ 0 → plainStart l ≡ record { message = []; finished = false }
     begun e = ap (λ (n : ℕ). record { message = []; finished = cond (eqb n 0) false true }) e

@@ -8,15 +8,15 @@ use mathlib.Core.Path.{_≡_}
 use mathlib.Core.Bool.{Bool, true}
 use mathlib.Core.List.{[], _++_}
 use Prim.Native.Nat.{ℕ, _+_, _≤_}
-use lib.ListN.{length, replicate}
+use lib.ListN.{length}
 use Rattle.bytes_le.specs.Bytes.{Bytes, AllBytes, le, putBytes}
 use Rattle.icepole.specs.declared.Variant.{Variant}
 use Rattle.icepole.specs.declared.Sealed.{Sealed}
 use Rattle.icepole.specs.declared.Opened.{Opened}
-use Rattle.icepole.specs.Variants.{sizes}
+use Rattle.icepole.specs.Variants.{sizes, tagLength}
 use Rattle.icepole.specs.Sealing.{sealed}
-use Rattle.icepole.specs.Answers.{maxLength, sealAnswer, sealOutput, openedAnswer, openRefusal, openAnswer, openOutput, fitsOutput}
-use Rattle.icepole_c.specs.Calls.{openCallRefusal, openCallOutput, openCallInfo}
+use Rattle.icepole.specs.Answers.{maxLength, noSecret, sealAnswer, sealOutput, openedAnswer, openRefusal, openAnswer, openOutput, fitsOutput}
+use Rattle.icepole_c.specs.Calls.{infoLength, openCallRefusal, openCallOutput, openCallInfo}
 
 -- key, nonce and secret number have the variant's lengths, and the data is within the limits
 pub record Within (v : Variant) (key nonce secret ad m : Bytes) : Type 0 where
@@ -30,9 +30,9 @@ pub record Within (v : Variant) (key nonce secret ad m : Bytes) : Type 0 where
 abbrev pub sealDone : ℕ → Sealed
 sealDone count = record { refusal = 0; mark = 0; count = count }
 
--- done: number 0, mark 0, the message's length, and the secret number, with zeros up to 16 bytes
+-- done: number 0, mark 0, the message's length, and the secret number, with zeros up to the longest one's length
 abbrev pub openDone : ℕ → Bytes → Opened
-openDone count secret = record { refusal = 0; mark = 0; length = count; secret = putBytes (replicate 16 0) 0 secret }
+openDone count secret = record { refusal = 0; mark = 0; length = count; secret = putBytes noSecret 0 secret }
 
 -- c is what sealing gives for some secret number and message within the limits, and these are what opening c answers and writes
 pub record Genuine (v : Variant) (key nonce ad c : Bytes) (fits : Bool) : Type 0 where
@@ -47,12 +47,12 @@ pub record Genuine (v : Variant) (key nonce ad c : Bytes) (fits : Bool) : Type 0
 
 pub record Demand2 : Type 0 where
   -- sealing within the limits, into an output with room, is done, and writes the sealed message at its front
-  pub seals : (v : Variant) (key nonce secret ad m out : Bytes) → Within v key nonce secret ad m → sizes v .secret + (length m + 16) ≤ length out
-      → (sealAnswer v key nonce secret ad m out ≡ sealDone (sizes v .secret + (length m + 16)))
+  pub seals : (v : Variant) (key nonce secret ad m out : Bytes) → Within v key nonce secret ad m → sizes v .secret + (length m + tagLength) ≤ length out
+      → (sealAnswer v key nonce secret ad m out ≡ sealDone (sizes v .secret + (length m + tagLength)))
       × (sealOutput v key nonce secret ad m out ≡ putBytes out 0 (sealed (sizes v) key nonce secret ad m))
   -- a sealed message is the secret number and the tag longer than its message
   pub sealed-length : (v : Variant) (key nonce secret ad m : Bytes) → Within v key nonce secret ad m
-      → length (sealed (sizes v) key nonce secret ad m) ≡ sizes v .secret + (length m + 16)
+      → length (sealed (sizes v) key nonce secret ad m) ≡ sizes v .secret + (length m + tagLength)
   -- opening what sealing gives, where the answer fits, is done, and gives back secret number and message
   pub opens : (v : Variant) (key nonce secret ad m : Bytes) → Within v key nonce secret ad m
       → (openAnswer v key nonce ad (sealed (sizes v) key nonce secret ad m) true ≡ openDone (length m) secret)
@@ -61,7 +61,7 @@ pub record Demand2 : Type 0 where
   pub fits : (v : Variant) (key nonce secret ad m out : Bytes) → Within v key nonce secret ad m → length m ≤ length out
       → fitsOutput v (sealed (sizes v) key nonce secret ad m) out ≡ true
   -- in C, with room in the output and in the further slice: the message, and its length (8 bytes) with the secret number, at their fronts
-  pub opens-in-c : (v : Variant) (key nonce secret ad m out info : Bytes) → Within v key nonce secret ad m → length m ≤ length out → 8 + sizes v .secret ≤ length info
+  pub opens-in-c : (v : Variant) (key nonce secret ad m out info : Bytes) → Within v key nonce secret ad m → length m ≤ length out → infoLength v ≤ length info
       → (openCallRefusal v key nonce ad (sealed (sizes v) key nonce secret ad m) out info ≡ 0)
       × (openCallOutput v key nonce ad (sealed (sizes v) key nonce secret ad m) out info ≡ putBytes out 0 m)
       × (openCallInfo v key nonce ad (sealed (sizes v) key nonce secret ad m) out info ≡ putBytes info 0 (le 8 (length m) ++ secret))

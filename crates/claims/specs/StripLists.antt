@@ -4,28 +4,36 @@
 --   outputs   every output, whole: as it was where its call was turned down, else with its part of the sealed message at the front
 --   bytes     those parts, joined, are the sealed message up to here, and the whole of it after an accepted end
 --   any-cut   for every list of strips whose joining is the message, each call is accepted and the bytes equal whole sealing
--- `StripCallLists`: lists of the C calls are such lists. Each call is lent the same slice for the state, as the call before left it; what it held before the start does not matter.
+-- `StripCallLists`: lists of the C calls are such lists. Each call is lent the same slice for the state, as the call before left it; what it held before the
+-- start does not matter.
 --   numbers   the numbers that the C calls return are those of the list of strips, and so, by `agrees`, those of the plain message
 --   outputs   every output, whole, likewise
---   state     the slice has the state of the list of strips at its front, and its bytes from 169 on stay
+--   state     the slice has the state of the list of strips at its front, and its bytes from `stripStateLength` on stay
 --   short     a slice of fewer bytes: start returns its own number, or else 5, every other call 5, and nothing is written
 -- `StatePasses` is one step of it: the state that a call leaves in the slice is the one that the next call reads.
 -- Assumes nothing.
 use mathlib.Core.Bool.{Bool, true, false, cond}
 use mathlib.Core.List.{List, [], _∷_, _++_, map}
 use mathlib.Core.Path.{_≡_}
-use Prim.Native.Nat.{ℕ, _+_, _^_, _≤_, _<_}
+use Prim.Native.Nat.{ℕ, _+_, _≤_, _<_}
 use lib.Dec.{eqb}
 use lib.ListN.{length, take, drop}
+use Rattle.bits.specs.Bits.{wordRange}
 use Rattle.bytes_le.specs.Bytes.{Bytes, putBytes}
+use Rattle.state_bytes.specs.StateBytes.{stateLength}
 use Rattle.icepole.specs.declared.Variant.the-variants.{Icepole128}
-use Rattle.icepole.specs.Variants.{sizes}
+use Rattle.icepole.specs.Variants.{sizes, tagLength}
 use Rattle.icepole.specs.Sealing.{sealed}
 use Rattle.icepole.specs.Answers.{maxLength, unless}
 use Rattle.strips.specs.declared.StripState.{StripState}
 use Rattle.strips.specs.declared.StripAnswer.{StripAnswer}
 use Rattle.strips.specs.Answers.{startAnswer, startOutput, stripAnswer, stripOutput, endAnswer, endOutput, startRefusal, stripNumber, endNumber}
-use Rattle.icepole_c.specs.Strips.{stripStateLength, stripStateBytes, stripStateIn, startCallRefusal, startCallOutput, startCallState, stripCallRefusal, stripCallOutput, stripCallState, endCallRefusal, endCallOutput, endCallState}
+use Rattle.icepole_c.specs.Strips.{stripStateLength, stripStateBytes, stripStateIn, startCallRefusal, startCallOutput, startCallState}
+use Rattle.icepole_c.specs.Strips.{stripCallRefusal, stripCallOutput, stripCallState, endCallRefusal, endCallOutput, endCallState}
+
+-- the sealed secret number, which start writes
+abbrev pub secretLength : ℕ
+secretLength = sizes Icepole128 .secret
 
 -- ---- the calls
 -- each has the output that is lent to it
@@ -112,7 +120,7 @@ accepted p (endOf o) = record { message = p .message; finished = true }
 -- how many bytes an accepted call writes
 unfoldable pub countOf : Call → ℕ
 countOf (stripOf m o) = length m
-countOf (endOf o) = 16
+countOf (endOf o) = tagLength
 
 -- a call turned down changes nothing
 unfoldable pub afterCall : PlainMessage → Call → PlainMessage
@@ -136,8 +144,8 @@ lentTo (endOf o) = o
 
 -- the part of the sealed message that an accepted call writes
 unfoldable pub partOf : (Bytes → Bytes) → PlainMessage → Call → Bytes
-partOf seal p (stripOf m o) = take (length m) (drop (16 + length (p .message)) (seal (p .message ++ m)))
-partOf seal p (endOf o) = drop (16 + length (p .message)) (seal (p .message))
+partOf seal p (stripOf m o) = take (length m) (drop (secretLength + length (p .message)) (seal (p .message ++ m)))
+partOf seal p (endOf o) = drop (secretLength + length (p .message)) (seal (p .message))
 
 abbrev pub plainOutputsFrom : (Bytes → Bytes) → PlainMessage → List Call → List Bytes
 plainOutputsFrom seal p [] = []
@@ -153,7 +161,7 @@ module _ (l : StripList) where
   plainStart = record { message = []; finished = cond (eqb startNumberOf 0) false true }
 
   unfoldable pub plainTold : List Told
-  plainTold = plainAnswer startNumberOf 16 ∷ plainFrom plainStart (l .calls)
+  plainTold = plainAnswer startNumberOf secretLength ∷ plainFrom plainStart (l .calls)
 
   unfoldable pub plainOf : PlainMessage
   plainOf = afterCalls plainStart (l .calls)
@@ -164,7 +172,7 @@ module _ (l : StripList) where
 
   unfoldable pub plainOutputs : List Bytes
   plainOutputs =
-      unless startNumberOf (l .out) (putBytes (l .out) 0 (take 16 (sealing []))) ∷ plainOutputsFrom sealing plainStart (l .calls)
+      unless startNumberOf (l .out) (putBytes (l .out) 0 (take secretLength (sealing []))) ∷ plainOutputsFrom sealing plainStart (l .calls)
 
 -- ---- a message cut into strips, each with room in its output, and then the end
 pub record Piece : Type 0 where
@@ -189,10 +197,10 @@ pub record StripLists : Type 0 where
   pub agrees : (l : StripList) → runTold l ≡ plainTold l
   pub outputs : (l : StripList) → runOutputs l ≡ plainOutputs l
   pub bytes : (l : StripList) → startNumberOf l ≡ 0
-      → runWritten l ≡ cond (plainOf l .finished) (sealing l (plainOf l .message)) (take (16 + length (plainOf l .message)) (sealing l (plainOf l .message)))
+      → runWritten l ≡ cond (plainOf l .finished) (sealing l (plainOf l .message)) (take (secretLength + length (plainOf l .message)) (sealing l (plainOf l .message)))
   pub any-cut : (key nonce secret associated out end : Bytes) (xs : List Piece)
-      → length key ≡ 16 → length nonce ≡ 16 → length secret ≡ 16 → length associated ≤ maxLength → 16 ≤ length out
-      → length (joined xs) ≤ maxLength → 16 ≤ length end
+      → length key ≡ sizes Icepole128 .key → length nonce ≡ sizes Icepole128 .nonce → length secret ≡ secretLength
+      → length associated ≤ maxLength → secretLength ≤ length out → length (joined xs) ≤ maxLength → tagLength ≤ length end
       → let l : StripList = record { key = key; nonce = nonce; secret = secret; associated = associated; out = out; calls = cut xs end } in
       AllDone (runTold l) × (runWritten l ≡ sealing l (joined xs))
 
@@ -238,7 +246,7 @@ module _ (l : StripList) (st : Bytes) where
 
 -- ---- the theorems of the C calls
 abbrev pub StatePasses : Type 0
-StatePasses = (b : Bytes) (s : StripState) → stripStateLength ≤ length b → length (s .bytes) ≡ 160 → s .count < 2 ^ 64
+StatePasses = (b : Bytes) (s : StripState) → stripStateLength ≤ length b → length (s .bytes) ≡ stateLength → s .count < wordRange
     → stripStateIn (putBytes b 0 (stripStateBytes s)) ≡ s
 
 pub record StripCallLists : Type 0 where

@@ -19,7 +19,7 @@ unfolding absorb
 length-absorb v b f = length-permuted 6 (xorWith v (pad b f))
 
 module _ (r : ℕ) (hr : 0 < r) where
-  -- ---- how many blocks stand blocksBefore the last
+  -- ---- how many blocks stand before the last
   pub blocks-before-last : (d : Bytes) → length d ≤ r → blocksBefore r (length d) ≡ 0
   unfolding blocksBefore
   blocks-before-last d h = div-eq-of-lt (omega arith)
@@ -128,7 +128,7 @@ module _ (r : ℕ) (hr : 0 < r) where
         ∙ ap₂ (λ (a b : ℕ). a + b) e (ih (absorb v (v ⊕₈ take r d) 1) (length-absorb v (v ⊕₈ take r d) 1) ∙ length-drop r d)
         ∙ (omega arith))
 
-    -- the first block of a encrypt, and the rest
+    -- the first block of a ciphertext, and the rest
     encrypt-take : (v d : Bytes) → length v ≡ 160 → r < length d → take r (encrypt r v d) ≡ v ⊕₈ take r d
     encrypt-take v d hv h =
         ap (take r) (encrypt-more v d h) ∙ take-at (v ⊕₈ take r d) (encrypt r (absorb v (take r d) 1) (drop r d)) r (length-first v d hv h)
@@ -147,7 +147,7 @@ module _ (r : ℕ) (hr : 0 < r) where
     decrypt-drop v d hv h =
         ap (drop r) (decrypt-more v d h) ∙ drop-at (v ⊕₈ take r d) (decrypt r (absorb v (v ⊕₈ take r d) 1) (drop r d)) r (length-first v d hv h)
 
-    -- ---- deciphering undoes enciphering, and the other way round
+    -- ---- decrypting undoes encrypting, and the other way round
     first-twice : (v d : Bytes) → length v ≡ 160 → r < length d → v ⊕₈ (v ⊕₈ take r d) ≡ take r d
     first-twice v d hv h =
         let e : length (take r d) ≡ r = length-take-le r d (omega arith) in
@@ -181,7 +181,7 @@ module _ (r : ℕ) (hr : 0 < r) where
         ∙ ap₂ (λ (a b : Bytes). a ++ b) (first-twice v d hv h) (ih (absorb v (v ⊕₈ take r d) 1) (length-absorb v (v ⊕₈ take r d) 1))
         ∙ lib.ListN.take-append-drop r d)
 
-    -- ---- the state after the message of a encrypt, block by block
+    -- ---- the state after the message of a ciphertext, block by block
     pub checked-last : (v d : Bytes) → length v ≡ 160 → length d ≤ r → absorbMessage r v (decrypt r v d) ≡ absorb v (v ⊕₈ d) 0
     checked-last v d hv h =
         message-last v (decrypt r v d) (rw (length-decrypt d v hv) h) ∙ ap (λ (m : Bytes). absorb v m 0) (decrypt-last v d h)

@@ -5,20 +5,21 @@ use mathlib.Core.List.{[], _∷_, _++_, append-assoc}
 use Prim.Native.Nat.{ℕ, _<_, _+_, _*_, _/_, _%_, _≤_}
 use native.Mathlib.Omega.{arith}
 use lib.Bits.{bitXor}
-use lib.ListN.{length, take, drop, replicate}
+use lib.ListN.{length, take, drop, replicate, length-replicate}
 use lib.Seq.{drop-drop, take-add}
 use Rattle.bytes_le.specs.Bytes.{Bytes, le, putBytes}
 use Rattle.permutation.specs.State.{State, setWord}
-use Rattle.state_bytes.specs.StateBytes.{bytesOf, permuted, wordOf}
+use Rattle.state_bytes.specs.StateBytes.{bytesOf, wordOf}
 use Rattle.bits.proofs.Cases.{two}
 use Rattle.bytes_le.proofs.Laws.{put-put}
+use Rattle.state_bytes.proofs.Lengths.{length-bytes}
 use Rattle.state_bytes.proofs.Words.{Shape, bytes-set-word, bytes-word}
-use Rattle.icepole.specs.Sealing.{_⊕₈_, absorb, pad, xorWith}
+use Rattle.icepole.specs.Sealing.{_⊕₈_, pad, padding, xorAt, xorWith}
 use Rattle.icepole.proofs.Runs.{decrypt-run, le-xor, set-run, xor-run, xor-with-run}
-use Rattle.icepole.proofs.Steps.{length-part, xor-with-zeros}
-use Rattle.icepole.proofs.Xor.{length-xor}
+use Rattle.icepole.proofs.Steps.{length-part, xor-with-zeros, zeros}
+use Rattle.icepole.proofs.Xor.{length-xor, xor-with-snoc}
 
--- ---- a turn of a loop over the words of a block: the words below w of the part of d from at on are done
+-- ---- a turn of a loop over the words of a block: p, the words below w, is done, and q is word w, which is k
 module _ (t : State) (ht : Shape t) (w : ℕ) (hw : w < 20) (v : Bytes) (hv : length v ≡ 160) (p q : Bytes) (hp : length p ≡ 8 * w) (k : ℕ) (hk : le 8 k ≡ q) where
   lq : length q ≡ 8
   lq = ap length (sym hk)
@@ -26,7 +27,7 @@ module _ (t : State) (ht : Shape t) (w : ℕ) (hw : w < 20) (v : Bytes) (hv : le
   fit : length p + length q ≤ length v
   fit = let l : length q ≡ 8 = lq in omega arith
 
-  -- the xored wordOf, as bytes of the state's bytes b
+  -- the xored word, as bytes of the state's bytes b
   new : (b : Bytes) → bytesOf t ≡ b → le 8 (bitXor (wordOf t w) k) ≡ take (length q) (drop (length p) b) ⊕₈ q
   new b e =
       le-xor 8 (wordOf t w) k
@@ -60,21 +61,25 @@ part-word d i w =
     let e : 8 * (w + 1) ≡ 8 * w + 8 = omega arith in
     ap (λ (n : ℕ). take n (drop i d)) e ∙ take-add (8 * w) 8 (drop i d) ∙ ap (λ (l : Bytes). take (8 * w) (drop i d) ++ take 8 l) (drop-drop (8 * w) i d)
 
--- ---- the padding, in word w
-pub padded-word : (t : State) → Shape t → (w : ℕ) → w < 20 → (v p : Bytes) → length v ≡ 160 → length p ≡ 8 * w → (f : ℕ) → f < 2
-    → bytesOf t ≡ xorWith v p → bytesOf (setWord t (w % 4) (w / 4) (bitXor (wordOf t w) (f + 2))) ≡ xorWith v (pad p f)
-padded-word t ht w hw v p hv hp f hf e =
-    turn-xor-with t ht w hw v hv p ((f + 2) ∷ replicate 7 0) hp (f + 2) (two (λ (f : ℕ). le 8 (f + 2) ≡ (f + 2) ∷ replicate 7 0) refl refl f hf) e
-    ∙ ap (xorWith v) (sym (append-assoc p ((f + 2) ∷ []) (replicate 7 0)))
+-- ---- the padding, in word w: the byte where it begins changes. p, of zeros, stands for the words before
+pub padded-word : (t : State) → Shape t → (w : ℕ) → w < 20 → (f : ℕ) → f < 2
+    → bytesOf (setWord t (w % 4) (w / 4) (bitXor (wordOf t w) (padding f))) ≡ xorAt (bytesOf t) (8 * w) (padding f)
+padded-word t ht w hw f hf =
+    let v : Bytes = bytesOf t in
+    let p : Bytes = replicate (8 * w) 0 in
+    let x : ℕ = padding f in
+    let lv : length (bytesOf t) ≡ 160 = length-bytes t in
+    let lp : length {A = ℕ} (replicate (8 * w) 0) ≡ 8 * w = length-replicate (8 * w) 0 in
+    let ev : v ≡ xorWith v p = sym (zeros v (8 * w)) in
+    turn-xor-with t ht w hw v lv p (x ∷ replicate 7 0) lp x (two (λ (f : ℕ). le 8 (padding f) ≡ padding f ∷ replicate 7 0) refl refl f hf) ev
+    ∙ ap (xorWith v) (sym (append-assoc p (x ∷ []) (replicate 7 0)))
     ∙ xor-with-zeros v (pad p f) 7
-
-pub full : (t : State) → Shape t → (n : ℕ) → n < 20 → (v p : Bytes) → length v ≡ 160 → length p ≡ 8 * n → (f : ℕ) → f < 2
-    → (r : Bytes) → bytesOf t ≡ xorWith v p → r ≡ permuted 6 (bytesOf (setWord t (n % 4) (n / 4) (bitXor (wordOf t n) (f + 2)))) → r ≡ absorb v p f
-unfolding absorb
-full t ht n hn v p hv hp f hf r e er = er ∙ ap (permuted 6) (padded-word t ht n hn v p hv hp f hf e)
+    ∙ sym (xor-with-snoc v p x (omega arith))
+    ∙ ap₂ (λ (b : Bytes) (i : ℕ). xorAt b i x) (sym ev) lp
 
 -- ---- the same, of a part of d from i on
-module _ (d : Bytes) (i w : ℕ) (h : i + 8 * (w + 1) ≤ length d) (hw : w < 20) (t : State) (ht : Shape t) (v : Bytes) (hv : length v ≡ 160) (k : ℕ) (hk : le 8 k ≡ take 8 (drop (i + 8 * w) d)) where
+module _ (d : Bytes) (i w : ℕ) (h : i + 8 * (w + 1) ≤ length d) (hw : w < 20) (t : State) (ht : Shape t) (v : Bytes) (hv : length v ≡ 160)
+    (k : ℕ) (hk : le 8 k ≡ take 8 (drop (i + 8 * w) d)) where
   lp : length (take (8 * w) (drop i d)) ≡ 8 * w
   lp = length-part d i (8 * w) (omega arith)
 

@@ -12,7 +12,8 @@ use borrow.Author.Tests.{eq-eqb, eqb-true, le-leb, leb-true}
 use mathlib.Core.Option.{Option, some, none}
 use Rattle.bytes_le.specs.Bytes.{Bytes}
 use Rattle.state_bytes.proofs.Lengths.{length-permuted}
-use Rattle.icepole.specs.Sealing.{_⊕₈_, absorb, absorbMessage, decrypt, encrypt, expectedTag, keyed, messageOf, messagePart, ready, readyOf, same, sealed, secretOf, secretPart, tag, tagPart}
+use Rattle.icepole.specs.Sealing.{_⊕₈_, absorb, absorbMessage, decrypt, encrypt, expectedTag, keyed, messageOf, messagePart, ready, readyOf, same, sealed}
+use Rattle.icepole.specs.Sealing.{secretOf, secretPart, tag, tagPart}
 use Rattle.icepole.specs.declared.Sizes.{Sizes}
 use Rattle.icepole.proofs.Blocks.{decrypt-encrypt, encrypt-decrypt, length-associated, length-decrypt, length-encrypt, length-message}
 use Rattle.icepole.proofs.Xor.{length-xor, xor-twice}

@@ -47,7 +47,7 @@ xor-with-run (x ∷ v) (y ∷ p) q h =
     put-next (bitXor x y) (xorWith v p) (length p) (take (length q) (drop (length p) (xorWith v p)) ⊕₈ q)
     ∙ ap (λ (l : Bytes). bitXor x y ∷ l) (xor-with-run v p q (omega arith))
 
--- and its cipher
+-- and its ciphertext
 pub xor-run : (v p q : Bytes) → length p + length q ≤ length v
     → v ⊕₈ (p ++ q) ≡ (v ⊕₈ p) ++ (take (length q) (drop (length p) (xorWith v p)) ⊕₈ q)
 xor-run v [] q h = sym (ap (λ (l : Bytes). l ++ (take (length q) v ⊕₈ q)) (xor-none v) ∙ xor-take v q)

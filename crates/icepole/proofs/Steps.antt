@@ -13,7 +13,7 @@ use lib.Seq.{length-take-le, take-suc, getD-drop}
 use borrow.Author.Tests.{eq-eqb, ne-eqb, eqb-true, eqb-false}
 use Rattle.bytes_le.specs.Bytes.{Bytes}
 use Rattle.state_bytes.specs.StateBytes.{permuted}
-use Rattle.icepole.specs.Sealing.{_⊕₈_, absorb, same, xorWith}
+use Rattle.icepole.specs.Sealing.{_⊕₈_, absorb, finish, padding, same, xorAt, xorWith}
 use Rattle.icepole.proofs.Xor.{getD-xor-with, length-xor, xor-cancel, xor-snoc, xor-with-set, xor-with-snoc}
 
 -- ---- a part of d, and one byte more of it
@@ -30,16 +30,16 @@ module _ (d : Bytes) (at j : ℕ) where
   module _ (v : Bytes) (hv : length v ≡ 160) (hj : j < 160) (h : at + j < length d) where
     -- the next byte is xored in
     pub xor-with-more : (b : Bytes) (x : ℕ) → b ≡ xorWith v (take j (drop at d)) → x ≡ getD d (at + j) 0
-        → set b j (bitXor (getD b j 0) x) ≡ xorWith v (take (j + 1) (drop at d))
+        → xorAt b j x ≡ xorWith v (take (j + 1) (drop at d))
     xor-with-more b x e ex =
         let p = take j (drop at d) in
         let l : length (take j (drop at d)) ≡ j = length-part (omega arith) in
-        ap₂ (λ (b : Bytes) (x : ℕ). set b j (bitXor (getD b j 0) x)) e ex
-        ∙ ap (λ (k : ℕ). set (xorWith v p) k (bitXor (getD (xorWith v p) k 0) (getD d (at + j) 0))) (sym l)
+        ap₂ (λ (b : Bytes) (x : ℕ). xorAt b j x) e ex
+        ∙ ap (λ (k : ℕ). xorAt (xorWith v p) k (getD d (at + j) 0)) (sym l)
         ∙ xor-with-snoc v p (getD d (at + j) 0) (omega arith)
         ∙ ap (xorWith v) (sym (part-snoc h))
 
-    -- the next byte's cipher
+    -- the next byte of the ciphertext
     pub xor-more : (b : Bytes) → b ≡ xorWith v (take j (drop at d))
         → v ⊕₈ take (j + 1) (drop at d) ≡ (v ⊕₈ take j (drop at d)) ++ (bitXor (getD b j 0) (getD d (at + j) 0) ∷ [])
     xor-more b e =
@@ -50,7 +50,7 @@ module _ (d : Bytes) (at j : ℕ) where
         ∙ ap (λ (x : ℕ). (v ⊕₈ p) ++ (bitXor x (getD d (at + j) 0) ∷ []))
         (sym (getD-xor-with v p) ∙ ap (λ (k : ℕ). getD (xorWith v p) k 0) l ∙ ap (λ (b : Bytes). getD b j 0) (sym e))
 
-    -- the next byte of a encrypt takes the state's place
+    -- the next byte of a ciphertext takes the state's place
     pub set-more : (b : Bytes) → b ≡ xorWith v (v ⊕₈ take j (drop at d))
         → set b j (getD d (at + j) 0) ≡ xorWith v (v ⊕₈ take (j + 1) (drop at d))
     set-more b e =
@@ -81,15 +81,15 @@ xor-with-none (x ∷ v) = refl
 
 -- ---- the padding
 pub padded : (v p b : Bytes) (n f : ℕ) (r : Bytes) → length p ≡ n → n < length v → b ≡ xorWith v p
-    → r ≡ permuted 6 (set b n (bitXor (getD b n 0) (f + 2))) → r ≡ absorb v p f
+    → r ≡ finish b n f → r ≡ absorb v p f
 unfolding absorb
 padded v p b n f r l h e er =
-    er ∙ ap (λ (b : Bytes). permuted 6 (set b n (bitXor (getD b n 0) (f + 2)))) e
-    ∙ ap (λ (k : ℕ). permuted 6 (set (xorWith v p) k (bitXor (getD (xorWith v p) k 0) (f + 2)))) (sym l)
-    ∙ ap (permuted 6) (xor-with-snoc v p (f + 2) (omega arith))
+    er ∙ ap (λ (b : Bytes). finish b n f) e
+    ∙ ap (λ (k : ℕ). finish (xorWith v p) k f) (sym l)
+    ∙ ap (permuted 6) (xor-with-snoc v p (padding f) (omega arith))
 
 -- ---- zeros change nothing
-zeros : (v : Bytes) (k : ℕ) → xorWith v (replicate k 0) ≡ v
+pub zeros : (v : Bytes) (k : ℕ) → xorWith v (replicate k 0) ≡ v
 zeros v zero = refl
 zeros [] (suc k) = refl
 zeros (x ∷ v) (suc k) = ap₂ (λ (y : ℕ) (l : Bytes). y ∷ l) (xor-zero-r x) (zeros v k)

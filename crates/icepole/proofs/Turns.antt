@@ -45,7 +45,7 @@ module _ (r : ℕ) (hr : 0 < r) (d : Bytes) (at : ℕ) where
   shorter : length d - at ≤ r → length (drop at d) ≤ r
   shorter h = rw length-drop h
 
-  -- ---- absorbAssociated data
+  -- ---- associated data
   pub associated-turn : (s t R : Bytes) → r < length d - at → absorbAssociated r s (drop at d) ≡ R → t ≡ absorb s (take r (drop at d)) 0
       → absorbAssociated r t (drop (at + r) d) ≡ R
   associated-turn s t R h e et =
@@ -74,7 +74,7 @@ module _ (r : ℕ) (hr : 0 < r) (d : Bytes) (at : ℕ) where
         length-xor s (take r (drop at d)) (omega arith) ∙ l
 
     module _ (o o₁ o₂ c : Bytes) (to : ℕ) (lc : length c ≡ length d) (ho : to + length d ≤ length o) (e₁ : o₁ ≡ putBytes o to (take at c)) where
-      -- ---- the encrypt c of a message
+      -- ---- the ciphertext c of a message
       pub encrypt-turn : (t : Bytes) → r < length d - at → encrypt r s (drop at d) ≡ drop at c → t ≡ absorb s (take r (drop at d)) 1
           → o₂ ≡ putBytes o₁ (to + at) (s ⊕₈ take r (drop at d))
           → (encrypt r t (drop (at + r) d) ≡ drop (at + r) c) × (o₂ ≡ putBytes o to (take (at + r) c))
@@ -98,7 +98,7 @@ module _ (r : ℕ) (hr : 0 < r) (d : Bytes) (at : ℕ) where
           put-turn o o₁ o₂ c w [] to at (omega arith) (rw lc ho) f e₁ e₂
           ∙ ap (putBytes o to) (take-all (at + length w) c (omega arith))
 
-      -- ---- the message c of a encrypt
+      -- ---- the message c of a ciphertext
       pub decrypt-turn : (t : Bytes) → r < length d - at → decrypt r s (drop at d) ≡ drop at c → t ≡ absorb s (s ⊕₈ take r (drop at d)) 1
           → o₂ ≡ putBytes o₁ (to + at) (s ⊕₈ take r (drop at d))
           → (decrypt r t (drop (at + r) d) ≡ drop (at + r) c) × (o₂ ≡ putBytes o to (take (at + r) c))
@@ -122,7 +122,7 @@ module _ (r : ℕ) (hr : 0 < r) (d : Bytes) (at : ℕ) where
           put-turn o o₁ o₂ c w [] to at (omega arith) (rw lc ho) f e₁ e₂
           ∙ ap (putBytes o to) (take-all (at + length w) c (omega arith))
 
-    -- ---- the state after the message of a encrypt
+    -- ---- the state after the message of a ciphertext
     pub checked-turn : (t R : Bytes) → r < length d - at → absorbMessage r s (decrypt r s (drop at d)) ≡ R → t ≡ absorb s (s ⊕₈ take r (drop at d)) 1
         → absorbMessage r t (decrypt r t (drop (at + r) d)) ≡ R
     checked-turn t R h e et =

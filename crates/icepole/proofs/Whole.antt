@@ -12,7 +12,8 @@ use Rattle.bytes_le.specs.Bytes.{Bytes, putBytes}
 use Rattle.bytes_le.proofs.Laws.{put-put}
 use Rattle.icepole.specs.Answers.{tagAgrees}
 use Rattle.icepole.specs.Bounds.{Bounded}
-use Rattle.icepole.specs.Sealing.{_⊕₈_, absorb, absorbAssociated, absorbMessage, decrypt, encrypt, expectedTag, keyed, messageOf, messagePart, ready, readyOf, same, sealed, secretOf, tag, tagPart}
+use Rattle.icepole.specs.Sealing.{_⊕₈_, absorb, absorbAssociated, absorbMessage, decrypt, encrypt, expectedTag, keyed, messageOf, messagePart, ready}
+use Rattle.icepole.specs.Sealing.{readyOf, same, sealed, secretOf, tag, tagPart}
 use Rattle.icepole.specs.declared.Sizes.{Sizes}
 use Rattle.icepole.proofs.Blocks.{length-encrypt}
 use Rattle.icepole.proofs.Opening.{length-keyed, length-ready}

@@ -9,7 +9,7 @@ use lib.Bits.{bitXor, xor-shr, xor-mod, differ, xor-step}
 use lib.Arith.{bin-ind}
 use Rattle.bytes_le.specs.Bytes.{Bytes}
 use Rattle.bits.proofs.Cases.{two}
-use Rattle.icepole.specs.Sealing.{_⊕₈_, xorWith}
+use Rattle.icepole.specs.Sealing.{_⊕₈_, xorAt, xorWith}
 
 bits-cancel : (x y : ℕ) → x < 2 → y < 2 → differ x (differ x y) ≡ y
 bits-cancel x y hx hy =
@@ -50,11 +50,6 @@ xor-twice [] (y ∷ b) h = absurd (not-suc-le-zero h)
 xor-twice (x ∷ v) [] h = refl
 xor-twice (x ∷ v) (y ∷ b) h = ap₂ (λ (z : ℕ) (l : Bytes). z ∷ l) (xor-cancel x y) (xor-twice v b (le-of-suc-le-suc h))
 
-pub length-xor-with : (v b : Bytes) → length (xorWith v b) ≡ length v
-length-xor-with v [] = refl
-length-xor-with [] (y ∷ b) = refl
-length-xor-with (x ∷ v) (y ∷ b) = ap suc (length-xor-with v b)
-
 -- the state's bytes past those that were xored
 pub getD-xor-with : (v b : Bytes) → getD (xorWith v b) (length b) 0 ≡ getD v (length b) 0
 getD-xor-with v [] = refl
@@ -63,7 +58,7 @@ getD-xor-with (x ∷ v) (y ∷ b) = getD-xor-with v b
 
 -- one byte more
 pub xor-with-snoc : (v b : Bytes) (z : ℕ) → length b < length v
-    → set (xorWith v b) (length b) (bitXor (getD (xorWith v b) (length b) 0) z) ≡ xorWith v (b ++ (z ∷ []))
+    → xorAt (xorWith v b) (length b) z ≡ xorWith v (b ++ (z ∷ []))
 xor-with-snoc [] b z h = absurd (not-suc-le-zero h)
 xor-with-snoc (x ∷ v) [] z h = refl
 xor-with-snoc (x ∷ v) (y ∷ b) z h = ap (λ (l : Bytes). bitXor x y ∷ l) (xor-with-snoc v b z (le-of-suc-le-suc h))

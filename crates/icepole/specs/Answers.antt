@@ -10,7 +10,7 @@ use Rattle.icepole.specs.declared.Sizes.{Sizes}
 use Rattle.icepole.specs.declared.Variant.{Variant}
 use Rattle.icepole.specs.declared.Sealed.{Sealed}
 use Rattle.icepole.specs.declared.Opened.{Opened}
-use Rattle.icepole.specs.Variants.{sizes}
+use Rattle.icepole.specs.Variants.{sizes, tagLength, maxSecret}
 use Rattle.icepole.specs.Sealing.{same, sealed, secretOf, messageOf, expectedTag, tagPart}
 
 -- a condition and its refusal number
@@ -40,7 +40,7 @@ sealNumber q k n s a m o =
     ∷ (2 when not (eqb n (q .nonce)))
     ∷ (3 when not (eqb s (q .secret)))
     ∷ (4 when (ltb maxLength a || ltb maxLength m))
-    ∷ (5 when ltb o (q .secret + (m + 16)))
+    ∷ (5 when ltb o (q .secret + (m + tagLength)))
     ∷ [])
 
 -- k key, n nonce, a associated data (both parts), c sealed message; whether the answer fits into what is lent for it, and whether the tag agrees
@@ -49,8 +49,8 @@ openNumber q k n a c fits agrees =
     refusal
     ((1 when not (eqb k (q .key)))
     ∷ (2 when not (eqb n (q .nonce)))
-    ∷ (4 when (ltb maxLength a || ltb maxLength (c - (q .secret + 16))))
-    ∷ (6 when ltb c (q .secret + 16))
+    ∷ (4 when (ltb maxLength a || ltb maxLength (c - (q .secret + tagLength))))
+    ∷ (6 when ltb c (q .secret + tagLength))
     ∷ (5 when not fits)
     ∷ (7 when not agrees)
     ∷ [])
@@ -59,9 +59,13 @@ openNumber q k n a c fits agrees =
 abbrev pub sealedAnswer : ℕ → ℕ → Sealed
 sealedAnswer num count = record { refusal = num; mark = 0; count = cond (eqb num 0) count 0 }
 
+-- the field has room for the longest secret number; zeros follow a shorter one
+abbrev pub noSecret : Bytes
+noSecret = replicate maxSecret 0
+
 abbrev pub openedAnswer : ℕ → ℕ → Bytes → Opened
 openedAnswer num count secret =
-    record { refusal = num; mark = 0; length = cond (eqb num 0) count 0; secret = cond (eqb num 0) (putBytes (replicate 16 0) 0 secret) (replicate 16 0) }
+    record { refusal = num; mark = 0; length = cond (eqb num 0) count 0; secret = cond (eqb num 0) (putBytes noSecret 0 secret) noSecret }
 
 -- a lent buffer after a call: as it was where the call was refused
 abbrev pub unless : ℕ → Bytes → Bytes → Bytes
@@ -74,7 +78,7 @@ module _ (v : Variant) (key nonce secret ad m out : Bytes) where
 
   -- the count of bytes written
   unfoldable pub sealAnswer : Sealed
-  sealAnswer = sealedAnswer sealRefusal (sizes v .secret + (length m + 16))
+  sealAnswer = sealedAnswer sealRefusal (sizes v .secret + (length m + tagLength))
 
   unfoldable pub sealOutput : Bytes
   sealOutput = unless sealRefusal out (putBytes out 0 (sealed (sizes v) key nonce secret ad m))
@@ -86,7 +90,7 @@ tagAgrees q key nonce ad c = same (expectedTag q key nonce ad c) (tagPart c)
 
 -- the length of the message that c implies
 abbrev pub openLength : Variant → Bytes → ℕ
-openLength v c = length c - (sizes v .secret + 16)
+openLength v c = length c - (sizes v .secret + tagLength)
 
 -- whether that message fits into an output. Verifying writes nothing: what it answers always fits
 abbrev pub fitsOutput : Variant → Bytes → Bytes → Bool

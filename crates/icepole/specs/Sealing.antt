@@ -1,14 +1,15 @@
--- Sealing and opening (003, 2.6 to 2.11; 01, "Sealing and opening"), over the sizes of a variant. The state is its 160 bytes.
+-- Sealing and opening (003, 2.6 to 2.11; 01, "Sealing and opening"), over the sizes of a variant. The state is its bytes.
 -- Assumes nothing.
 use mathlib.Core.Bool.{Bool, true, false, cond}
 use mathlib.Core.List.{List, [], _∷_, _++_}
 use Prim.Native.Nat.{ℕ, zero, suc, _+_, _-_, _/_}
 use lib.Bits.{bitXor}
 use lib.Dec.{eqb}
-use lib.ListN.{length, take, drop, replicate}
+use lib.ListN.{length, take, drop, replicate, getD, set}
 use Rattle.bytes_le.specs.Bytes.{Bytes}
 use Rattle.state_bytes.specs.StateBytes.{permuted, startBytes}
 use Rattle.icepole.specs.declared.Sizes.{Sizes}
+use Rattle.icepole.specs.Variants.{tagLength, maxNonce}
 
 -- ---- exclusive or
 infixl 32 _⊕₈_
@@ -24,17 +25,29 @@ xorWith v [] = v
 xorWith [] (y ∷ b) = []
 xorWith (x ∷ v) (y ∷ b) = bitXor x y ∷ xorWith v b
 
+-- v with x xored into byte i
+abbrev pub xorAt : Bytes → ℕ → ℕ → Bytes
+xorAt v i x = set v i (bitXor (getD v i 0) x)
+
 -- ---- one block (003, 2.7)
--- a block of L bytes gets its frame bit at bit 8L and a 1 at bit 8L + 1: both lie in byte L. The zeros that follow change nothing when xored in
+-- a block of L bytes gets its frame bit at bit 8L and a 1 at bit 8L + 1: bits 0 and 1 of byte L. The zeros that follow change nothing when xored in
+abbrev pub padding : ℕ → ℕ
+padding frame = frame + 2
+
 abbrev pub pad : Bytes → ℕ → Bytes
-pad b frame = b ++ ((frame + 2) ∷ [])
+pad b frame = b ++ (padding frame ∷ [])
 
 -- the state after a block: it is padded and xored in, then P6
 unfoldable pub absorb : Bytes → Bytes → ℕ → Bytes
 absorb v b frame = permuted 6 (xorWith v (pad b frame))
 
+-- the same, where the block's n bytes are xored in already
+abbrev pub finish : Bytes → ℕ → ℕ → Bytes
+finish v n frame = permuted 6 (xorAt v n (padding frame))
+
 -- ---- data in blocks of r bytes
--- how many blocks stand before the last, for n bytes (01, "The paper leaves this open, and we fix it"). They are full; no data is one empty block; a positive multiple of r has no block more
+-- how many blocks stand before the last, for n bytes (01, "The paper leaves this open, and we fix it"). They are full; no data is one empty block; a positive
+-- multiple of r has no block more
 unfoldable pub blocksBefore : ℕ → ℕ → ℕ
 blocksBefore r n = (n - 1) / r
 
@@ -71,7 +84,7 @@ module _ (r : ℕ) where
 -- ---- sealing
 -- key and nonce are xored into the starting words from word 0 on, a nonce of 12 bytes with four zero bytes at its end; then P12 (003, 2.6, 2.10, 2.11)
 unfoldable pub keyed : Bytes → Bytes → Bytes
-keyed key nonce = permuted 12 (xorWith startBytes (key ++ (nonce ++ replicate (16 - length nonce) 0)))
+keyed key nonce = permuted 12 (xorWith startBytes (key ++ (nonce ++ replicate (maxNonce - length nonce) 0)))
 
 -- the state after the secret-number block, which is empty in a variant without secret number, and the associated blocks
 unfoldable pub ready : ℕ → Bytes → Bytes → Bytes → Bytes
@@ -79,7 +92,7 @@ ready r v secret ad = absorbAssociated r (absorb v secret 0) ad
 
 -- the tag: words 0 and 1 (003, 2.8)
 abbrev pub tag : Bytes → Bytes
-tag v = take 16 v
+tag v = take tagLength v
 
 -- a sealed message: the sealed secret number, the ciphertext and the tag
 unfoldable pub sealed : Sizes → Bytes → Bytes → Bytes → Bytes → Bytes → Bytes
@@ -101,10 +114,10 @@ abbrev pub secretPart : Sizes → Bytes → Bytes
 secretPart q c = take (q .secret) c
 
 abbrev pub messagePart : Sizes → Bytes → Bytes
-messagePart q c = take (length c - (q .secret + 16)) (drop (q .secret) c)
+messagePart q c = take (length c - (q .secret + tagLength)) (drop (q .secret) c)
 
 abbrev pub tagPart : Bytes → Bytes
-tagPart c = drop (length c - 16) c
+tagPart c = drop (length c - tagLength) c
 
 -- what c holds, whatever its tag: the secret number, the state after the associated blocks, the message, and the tag that belongs to them
 unfoldable pub secretOf : Sizes → Bytes → Bytes → Bytes → Bytes

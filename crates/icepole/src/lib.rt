@@ -1,16 +1,16 @@
-// ICEPOLE-128, 128a and 256a (003, 2.6 to 2.11). The state between permutations is its words; the contracts speak of its 160 bytes.
+// ICEPOLE-128, 128a and 256a (003, 2.6 to 2.11). The state between permutations is its words; the contracts speak of its bytes.
+use state_bytes::STATE_BYTES;
 ghost use mathlib.Core.Path.{_≡_};
 ghost use mathlib.Core.Bool.{true};
 ghost use mathlib.Core.List.{[], _++_};
-ghost use Prim.Native.Nat.{_+_, _-_, _*_, _/_, _%_, _≤_, _<_, _^_};
-ghost use lib.Bits.{bitXor};
+ghost use Prim.Native.Nat.{_+_, _-_, _*_, _≤_, _<_};
 ghost use lib.Dec.{leb};
-ghost use lib.ListN.{length, take, drop, getD, set};
-ghost use Rattle.permutation.specs.State.{setWord};
+ghost use lib.ListN.{length, take, drop, getD};
+ghost use Rattle.bits.specs.Bits.{wordRange};
 ghost use Rattle.bytes_le.specs.Bytes.{putBytes};
-ghost use Rattle.state_bytes.specs.StateBytes.{wordOf, bytesOf, permuted};
-ghost use Rattle.icepole.specs.Variants.{sizes};
-ghost use Rattle.icepole.specs.Sealing.{_⊕₈_, xorWith, same, keyed, absorb, absorbAssociated, absorbMessage, encrypt, decrypt, ready, sealed, secretOf, readyOf, tag, messagePart, tagPart};
+ghost use Rattle.state_bytes.specs.StateBytes.{stateLength, bytesOf};
+ghost use Rattle.icepole.specs.Variants.{sizes, tagLength, maxKey, maxNonce, maxSecret};
+ghost use Rattle.icepole.specs.Sealing.{_⊕₈_, xorWith, same, keyed, absorb, finish, absorbAssociated, absorbMessage, encrypt, decrypt, ready, sealed, secretOf, readyOf, tag, messagePart, tagPart};
 ghost use Rattle.icepole.specs.Answers.{maxLength, sealNumber, openNumber, sealAnswer, sealOutput, openedAnswer, openAnswer, openOutput, fitsOutput};
 ghost use Rattle.icepole.specs.Bounds.{Bounded};
 
@@ -46,6 +46,26 @@ pub const TAG_DIFFERS: u32 = 7;
 // Associated data and message are at most so many bytes each.
 pub const MAX_LENGTH: usize = 67108864;
 
+// Bytes of the tag, under every variant.
+pub const TAG_BYTES: usize = 16;
+
+// Bytes of key, nonce, secret number and block under ICEPOLE-128. Its nonce and its secret number are the longest.
+pub const KEY_BYTES: usize = 16;
+
+pub const NONCE_BYTES: usize = 16;
+
+pub const SECRET_BYTES: usize = 16;
+
+pub const BLOCK_BYTES: usize = 128;
+
+// Bytes of a block of ICEPOLE-256a.
+const SHORT_BLOCK_BYTES: usize = 120;
+
+// Words of a block: of 128 and 128a, and of 256a.
+pub const BLOCK_WORDS: usize = BLOCK_BYTES / 8;
+
+const SHORT_BLOCK_WORDS: usize = SHORT_BLOCK_BYTES / 8;
+
 // What sealing answers: a refusal number with its mark, or the count of bytes written.
 pub struct Sealed {
     pub refusal: u32,
@@ -58,7 +78,7 @@ pub struct Opened {
     pub refusal: u32,
     pub mark: u32,
     pub length: usize,
-    pub secret: [u8; 16],
+    pub secret: [u8; SECRET_BYTES],
 }
 
 type State = [[u64; 5]; 4];
@@ -68,30 +88,30 @@ pub fn sizes_of(v: Variant) -> Sizes
 {
     match v {
         Variant::Icepole128 => Sizes {
-            key: 16,
-            nonce: 16,
-            secret: 16,
-            block: 128,
+            key: KEY_BYTES,
+            nonce: NONCE_BYTES,
+            secret: SECRET_BYTES,
+            block: BLOCK_BYTES,
         },
         Variant::Icepole128a => Sizes {
             key: 16,
             nonce: 12,
             secret: 0,
-            block: 128,
+            block: BLOCK_BYTES,
         },
         Variant::Icepole256a => Sizes {
             key: 32,
             nonce: 12,
             secret: 0,
-            block: 120,
+            block: SHORT_BLOCK_BYTES,
         },
     }
 }
 
 // The state after a block of n bytes that is already xored into v: the frame bit and the 1 are added, then P6.
-pub fn finish_bytes(v: [u8; 160], n: usize, frame: u8) -> State
-    requires { ⌜ (n < 160) × (frame < 2) ⌝ }
-    ensures { λ r. ⌜ bytesOf r ≡ permuted 6 (set v n (bitXor (getD v n 0) (frame + 2))) ⌝ }
+pub fn finish_bytes(v: [u8; STATE_BYTES], n: usize, frame: u8) -> State
+    requires { ⌜ (n < stateLength) × (frame < 2) ⌝ }
+    ensures { λ r. ⌜ bytesOf r ≡ finish v n frame ⌝ }
 {
     let mut b = v;
     b[n] = b[n] ^ (frame + 2);
@@ -102,7 +122,7 @@ pub fn finish_bytes(v: [u8; 160], n: usize, frame: u8) -> State
 // The same for a block of n words.
 fn finish_words(s: State, n: usize, frame: u64) -> State
     requires { ⌜ (n < 20) × (frame < 2) ⌝ }
-    ensures { λ r. ⌜ bytesOf r ≡ permuted 6 (bytesOf (setWord s (n % 4) (n / 4) (bitXor (wordOf s n) (frame + 2)))) ⌝ }
+    ensures { λ r. ⌜ bytesOf r ≡ finish (bytesOf s) (8 * n) frame ⌝ }
 {
     let mut t = s;
     let x = n % 4;
@@ -191,11 +211,11 @@ fn encrypt_full(s: State, m: &[u8], at: usize, n: usize, out: &mut [u8], to: usi
     ensures { λ r. ⌜ (bytesOf r ≡ absorb (bytesOf s) (take (8 * n) (drop at (now (m .entry)))) 1)
         × (now (out .exit) ≡ putBytes (now (out .entry)) to (bytesOf s ⊕₈ take (8 * n) (drop at (now (m .entry))))) ⌝ }
 {
-    if n == 16 {
-        return encrypt_words(s, m, at, 16, out, to);
+    if n == BLOCK_WORDS {
+        return encrypt_words(s, m, at, BLOCK_WORDS, out, to);
     }
-    if n == 15 {
-        return encrypt_words(s, m, at, 15, out, to);
+    if n == SHORT_BLOCK_WORDS {
+        return encrypt_words(s, m, at, SHORT_BLOCK_WORDS, out, to);
     }
     encrypt_words(s, m, at, n, out, to)
 }
@@ -204,11 +224,11 @@ fn verify_full(s: State, c: &[u8], at: usize, n: usize) -> State
     requires { ⌜ (n < 20) × (at + 8 * n ≤ length (now c)) ⌝ }
     ensures { λ r. ⌜ bytesOf r ≡ absorb (bytesOf s) (bytesOf s ⊕₈ take (8 * n) (drop at (now (c .entry)))) 1 ⌝ }
 {
-    if n == 16 {
-        return verify_words(s, c, at, 16);
+    if n == BLOCK_WORDS {
+        return verify_words(s, c, at, BLOCK_WORDS);
     }
-    if n == 15 {
-        return verify_words(s, c, at, 15);
+    if n == SHORT_BLOCK_WORDS {
+        return verify_words(s, c, at, SHORT_BLOCK_WORDS);
     }
     verify_words(s, c, at, n)
 }
@@ -218,11 +238,11 @@ fn decrypt_full(s: State, c: &[u8], at: usize, n: usize, out: &mut [u8], to: usi
     ensures { λ r. ⌜ (bytesOf r ≡ absorb (bytesOf s) (bytesOf s ⊕₈ take (8 * n) (drop at (now (c .entry)))) 1)
         × (now (out .exit) ≡ putBytes (now (out .entry)) to (bytesOf s ⊕₈ take (8 * n) (drop at (now (c .entry))))) ⌝ }
 {
-    if n == 16 {
-        return decrypt_words(s, c, at, 16, out, to);
+    if n == BLOCK_WORDS {
+        return decrypt_words(s, c, at, BLOCK_WORDS, out, to);
     }
-    if n == 15 {
-        return decrypt_words(s, c, at, 15, out, to);
+    if n == SHORT_BLOCK_WORDS {
+        return decrypt_words(s, c, at, SHORT_BLOCK_WORDS, out, to);
     }
     decrypt_words(s, c, at, n, out, to)
 }
@@ -240,8 +260,14 @@ fn joined(first: &[u8], second: &[u8], i: usize) -> u8
 }
 
 // v with the n bytes from index at on of two parts xored in.
-fn xor_parts(v: [u8; 160], first: &[u8], second: &[u8], at: usize, n: usize) -> [u8; 160]
-    requires { ⌜ (at + n ≤ length (now first) + length (now second)) × (n < 160) × (at + n < 2 ^ 64) ⌝ }
+fn xor_parts(
+    v: [u8; STATE_BYTES],
+    first: &[u8],
+    second: &[u8],
+    at: usize,
+    n: usize,
+) -> [u8; STATE_BYTES]
+    requires { ⌜ (at + n ≤ length (now first) + length (now second)) × (n < stateLength) × (at + n < wordRange) ⌝ }
     ensures { λ r. ⌜ r ≡ xorWith v (take n (drop at (now (first .entry) ++ now (second .entry)))) ⌝ }
 {
     let mut b = v;
@@ -255,8 +281,15 @@ fn xor_parts(v: [u8; 160], first: &[u8], second: &[u8], at: usize, n: usize) -> 
 }
 
 // The state after a block of two parts.
-fn absorb_bytes(v: [u8; 160], first: &[u8], second: &[u8], at: usize, n: usize, frame: u8) -> State
-    requires { ⌜ (at + n ≤ length (now first) + length (now second)) × (n < 160) × (at + n < 2 ^ 64) × (frame < 2) ⌝ }
+fn absorb_bytes(
+    v: [u8; STATE_BYTES],
+    first: &[u8],
+    second: &[u8],
+    at: usize,
+    n: usize,
+    frame: u8,
+) -> State
+    requires { ⌜ (at + n ≤ length (now first) + length (now second)) × (n < stateLength) × (at + n < wordRange) × (frame < 2) ⌝ }
     ensures { λ r. ⌜ bytesOf r ≡ absorb v (take n (drop at (now (first .entry) ++ now (second .entry)))) frame ⌝ }
 {
     finish_bytes(xor_parts(v, first, second, at, n), n, frame)
@@ -264,7 +297,7 @@ fn absorb_bytes(v: [u8; 160], first: &[u8], second: &[u8], at: usize, n: usize, 
 
 // The state after a block of a message, whose ciphertext is put into out from index to on.
 fn encrypt_bytes(
-    v: [u8; 160],
+    v: [u8; STATE_BYTES],
     m: &[u8],
     at: usize,
     n: usize,
@@ -272,7 +305,7 @@ fn encrypt_bytes(
     out: &mut [u8],
     to: usize,
 ) -> State
-    requires { ⌜ (at + n ≤ length (now m)) × (n < 160) × (frame < 2) × (to + n ≤ length (now out)) ⌝ }
+    requires { ⌜ (at + n ≤ length (now m)) × (n < stateLength) × (frame < 2) × (to + n ≤ length (now out)) ⌝ }
     ensures { λ r. ⌜ (bytesOf r ≡ absorb v (take n (drop at (now (m .entry)))) frame)
         × (now (out .exit) ≡ putBytes (now (out .entry)) to (v ⊕₈ take n (drop at (now (m .entry))))) ⌝ }
 {
@@ -288,8 +321,8 @@ fn encrypt_bytes(
 }
 
 // The state after the message of a block of ciphertext, whose bytes take the place of the state's.
-fn verify_bytes(v: [u8; 160], c: &[u8], at: usize, n: usize, frame: u8) -> State
-    requires { ⌜ (at + n ≤ length (now c)) × (n < 160) × (frame < 2) ⌝ }
+fn verify_bytes(v: [u8; STATE_BYTES], c: &[u8], at: usize, n: usize, frame: u8) -> State
+    requires { ⌜ (at + n ≤ length (now c)) × (n < stateLength) × (frame < 2) ⌝ }
     ensures { λ r. ⌜ bytesOf r ≡ absorb v (v ⊕₈ take n (drop at (now (c .entry)))) frame ⌝ }
 {
     let mut b = v;
@@ -303,7 +336,7 @@ fn verify_bytes(v: [u8; 160], c: &[u8], at: usize, n: usize, frame: u8) -> State
 
 // The state after a block of ciphertext, whose message is put into out from index to on.
 fn decrypt_bytes(
-    v: [u8; 160],
+    v: [u8; STATE_BYTES],
     c: &[u8],
     at: usize,
     n: usize,
@@ -311,7 +344,7 @@ fn decrypt_bytes(
     out: &mut [u8],
     to: usize,
 ) -> State
-    requires { ⌜ (at + n ≤ length (now c)) × (n < 160) × (frame < 2) × (to + n ≤ length (now out)) ⌝ }
+    requires { ⌜ (at + n ≤ length (now c)) × (n < stateLength) × (frame < 2) × (to + n ≤ length (now out)) ⌝ }
     ensures { λ r. ⌜ (bytesOf r ≡ absorb v (v ⊕₈ take n (drop at (now (c .entry)))) frame)
         × (now (out .exit) ≡ putBytes (now (out .entry)) to (v ⊕₈ take n (drop at (now (c .entry))))) ⌝ }
 {
@@ -327,8 +360,8 @@ fn decrypt_bytes(
 }
 
 // The message of the last block of a ciphertext is put into out from index to on.
-fn decrypt_last(v: [u8; 160], c: &[u8], at: usize, n: usize, out: &mut [u8], to: usize)
-    requires { ⌜ (at + n ≤ length (now c)) × (n < 160) × (to + n ≤ length (now out)) ⌝ }
+fn decrypt_last(v: [u8; STATE_BYTES], c: &[u8], at: usize, n: usize, out: &mut [u8], to: usize)
+    requires { ⌜ (at + n ≤ length (now c)) × (n < stateLength) × (to + n ≤ length (now out)) ⌝ }
     ensures { λ _. ⌜ now (out .exit) ≡ putBytes (now (out .entry)) to (v ⊕₈ take n (drop at (now (c .entry)))) ⌝ }
 {
     let mut j: usize = 0;
@@ -338,14 +371,14 @@ fn decrypt_last(v: [u8; 160], c: &[u8], at: usize, n: usize, out: &mut [u8], to:
     }
 }
 
-// Whether the tag of v is the 16 bytes of c from index at on. All sixteen differences are gathered before the one test.
-fn tag_matches(v: [u8; 160], c: &[u8], at: usize) -> bool
-    requires { ⌜ at + 16 ≤ length (now c) ⌝ }
-    ensures { λ r. ⌜ r ≡ same (take 16 v) (take 16 (drop at (now (c .entry)))) ⌝ }
+// Whether the tag of v stands in c from index at on. All differences are gathered before the one test.
+fn tag_matches(v: [u8; STATE_BYTES], c: &[u8], at: usize) -> bool
+    requires { ⌜ at + tagLength ≤ length (now c) ⌝ }
+    ensures { λ r. ⌜ r ≡ same (tag v) (take tagLength (drop at (now (c .entry)))) ⌝ }
 {
     let mut d: u8 = 0;
     let mut j: usize = 0;
-    while j < 16 {
+    while j < TAG_BYTES {
         d = d | (v[j] ^ c[at + j]);
         j += 1;
     }
@@ -354,7 +387,7 @@ fn tag_matches(v: [u8; 160], c: &[u8], at: usize) -> bool
 
 // The state after key and nonce. The zero bytes after a nonce of 12 change nothing, and are not xored in.
 fn keyed_state(key: &[u8], nonce: &[u8]) -> State
-    requires { ⌜ (length (now key) ≤ 32) × (length (now nonce) ≤ 16) ⌝ }
+    requires { ⌜ (length (now key) ≤ maxKey) × (length (now nonce) ≤ maxNonce) ⌝ }
     ensures { λ r. ⌜ bytesOf r ≡ keyed (now (key .entry)) (now (nonce .entry)) ⌝ }
 {
     let v = state_bytes::to_bytes(permutation::start_state());
@@ -363,7 +396,7 @@ fn keyed_state(key: &[u8], nonce: &[u8]) -> State
 
 // The state after a block of n words of two parts.
 fn absorb_either(s: State, first: &[u8], second: &[u8], at: usize, n: usize) -> State
-    requires { ⌜ (n < 20) × (at + 8 * n ≤ length (now first) + length (now second)) × (at + 8 * n < 2 ^ 64) ⌝ }
+    requires { ⌜ (n < 20) × (at + 8 * n ≤ length (now first) + length (now second)) × (at + 8 * n < wordRange) ⌝ }
     ensures { λ r. ⌜ bytesOf r ≡ absorb (bytesOf s) (take (8 * n) (drop at (now (first .entry) ++ now (second .entry)))) 0 ⌝ }
 {
     if at + 8 * n <= first.len() {
@@ -377,7 +410,7 @@ fn absorb_either(s: State, first: &[u8], second: &[u8], at: usize, n: usize) -> 
 
 // The state after associated data in two parts. A block has n words.
 fn absorb_associated(v: State, n: usize, first: &[u8], second: &[u8]) -> State
-    requires { ⌜ (0 < n) × (n < 20) × (length (now first) + length (now second) < 2 ^ 32) ⌝ }
+    requires { ⌜ (0 < n) × (n < 20) × (length (now first) + length (now second) ≤ maxLength) ⌝ }
     ensures { λ w. ⌜ bytesOf w ≡ absorbAssociated (8 * n) (bytesOf v) (now (first .entry) ++ now (second .entry)) ⌝ }
 {
     let r = 8 * n;
@@ -474,14 +507,14 @@ fn seal_into(
     out: &mut [u8],
 )
     requires { ⌜ Bounded q × (length (now key) ≡ q .key) × (length (now nonce) ≡ q .nonce) × (length (now secret) ≡ q .secret)
-        × (length (now first) + length (now second) ≤ maxLength) × (q .secret + (length (now message) + 16) ≤ length (now out)) ⌝ }
+        × (length (now first) + length (now second) ≤ maxLength) × (q .secret + (length (now message) + tagLength) ≤ length (now out)) ⌝ }
     ensures { λ _. ⌜ now (out .exit) ≡ putBytes (now (out .entry)) 0
         (sealed q (now (key .entry)) (now (nonce .entry)) (now (secret .entry)) (now (first .entry) ++ now (second .entry)) (now (message .entry))) ⌝ }
 {
     let n = q.secret;
     let u = seal_ready(q, key, nonce, secret, first, second, out);
     let w = state_bytes::to_bytes(encrypt_message(u, q.block / 8, message, out, n));
-    bytes_le::put_bytes(out, n + message.len(), &w[0..16]);
+    bytes_le::put_bytes(out, n + message.len(), &w[0..TAG_BYTES]);
 }
 
 // The state after the secret number and the associated data of a sealed message; the secret number is put into secret.
@@ -495,7 +528,7 @@ fn open_ready(
     secret: &mut [u8],
 ) -> State
     requires { ⌜ Bounded q × (length (now key) ≡ q .key) × (length (now nonce) ≡ q .nonce)
-        × (length (now first) + length (now second) ≤ maxLength) × (q .secret ≤ length (now c)) × (length (now secret) ≡ 16) ⌝ }
+        × (length (now first) + length (now second) ≤ maxLength) × (q .secret ≤ length (now c)) × (length (now secret) ≡ maxSecret) ⌝ }
     ensures { λ r. ⌜ (bytesOf r ≡ readyOf q (now (key .entry)) (now (nonce .entry)) (now (first .entry) ++ now (second .entry)) (now (c .entry)))
         × (now (secret .exit) ≡ putBytes (now (secret .entry)) 0 (secretOf q (now (key .entry)) (now (nonce .entry)) (now (c .entry)))) ⌝ }
 {
@@ -539,7 +572,7 @@ fn seal_number_of(
     if message > MAX_LENGTH {
         return DATA_TOO_LONG;
     }
-    if out < q.secret + (message + 16) {
+    if out < q.secret + (message + TAG_BYTES) {
         return OUTPUT_TOO_SHORT;
     }
     0
@@ -570,7 +603,7 @@ fn open_number_of(
     if second > MAX_LENGTH - first {
         return DATA_TOO_LONG;
     }
-    let over = q.secret + 16;
+    let over = q.secret + TAG_BYTES;
     if sealed > MAX_LENGTH + over {
         return DATA_TOO_LONG;
     }
@@ -586,9 +619,9 @@ fn open_number_of(
 // Whether the message that a sealed message of so many bytes implies fits into out bytes.
 fn message_fits(q: Sizes, sealed: usize, out: usize) -> bool
     requires { ⌜ Bounded q ⌝ }
-    ensures { λ r. ⌜ r ≡ leb (sealed - (q .secret + 16)) out ⌝ }
+    ensures { λ r. ⌜ r ≡ leb (sealed - (q .secret + tagLength)) out ⌝ }
 {
-    let over = q.secret + 16;
+    let over = q.secret + TAG_BYTES;
     if sealed < over {
         return true;
     }
@@ -646,17 +679,17 @@ pub fn seal(
     Sealed {
         refusal: 0,
         mark: 0,
-        count: q.secret + (message.len() + 16),
+        count: q.secret + (message.len() + TAG_BYTES),
     }
 }
 
 // Whether the tag agrees, of a sealed message after whose associated data the state is u.
 fn tag_agrees(q: Sizes, u: State, c: &[u8]) -> bool
-    requires { ⌜ Bounded q × (q .secret + 16 ≤ length (now c)) ⌝ }
+    requires { ⌜ Bounded q × (q .secret + tagLength ≤ length (now c)) ⌝ }
     ensures { λ r. ⌜ r ≡ same (tag (absorbMessage (q .block) (bytesOf u) (decrypt (q .block) (bytesOf u) (messagePart q (now (c .entry)))))) (tagPart (now (c .entry))) ⌝ }
 {
     let from = q.secret;
-    let n = c.len() - (from + 16);
+    let n = c.len() - (from + TAG_BYTES);
     let w = state_bytes::to_bytes(verify_message(u, q.block / 8, c, from, n));
     tag_matches(w, c, from + n)
 }
@@ -670,7 +703,7 @@ fn refused(number: u32) -> Opened
         refusal: number,
         mark: 0,
         length: 0,
-        secret: [0u8; 16],
+        secret: [0u8; SECRET_BYTES],
     }
 }
 
@@ -713,13 +746,13 @@ pub fn verify(
     if number != 0 {
         return refused(number);
     }
-    let mut secret = [0u8; 16];
+    let mut secret = [0u8; SECRET_BYTES];
     let u = open_ready(q, key, nonce, first, second, sealed, &mut secret);
     if tag_agrees(q, u, sealed) {
         return Opened {
             refusal: 0,
             mark: 0,
-            length: sealed.len() - (q.secret + 16),
+            length: sealed.len() - (q.secret + TAG_BYTES),
             secret,
         };
     }
@@ -753,12 +786,12 @@ pub fn open_message(
     if number != 0 {
         return refused(number);
     }
-    let mut secret = [0u8; 16];
+    let mut secret = [0u8; SECRET_BYTES];
     let u = open_ready(q, key, nonce, first, second, sealed, &mut secret);
     let agrees = tag_agrees(q, u, sealed);
     if agrees {
         let from = q.secret;
-        let n = sealed.len() - (from + 16);
+        let n = sealed.len() - (from + TAG_BYTES);
         decrypt_message(u, q.block / 8, sealed, from, n, out);
         return Opened {
             refusal: 0,

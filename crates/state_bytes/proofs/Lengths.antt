@@ -1,4 +1,4 @@
--- A state has 160 bytes.
+-- A state has `stateLength` bytes.
 -- Assumes nothing.
 use mathlib.Core.Path.{_≡_, refl, ap, _∙_}
 use Prim.Native.Nat.{ℕ, zero, suc, _+_, _*_}

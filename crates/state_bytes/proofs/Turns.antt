@@ -5,7 +5,7 @@ use mathlib.Core.List.{[], _∷_}
 use Prim.Native.Nat.{ℕ, suc, _<_, _+_, _*_}
 use native.Mathlib.Omega.{arith}
 use lib.ListN.{length, take, drop}
-use Rattle.bytes_le.specs.Bytes.{Bytes, le, putBytes, unle}
+use Rattle.bytes_le.specs.Bytes.{Bytes, le, leAt, putBytes, unle}
 use Rattle.permutation.specs.State.{State}
 use Rattle.bytes_le.proofs.Laws.{put-put, put-whole}
 use Rattle.state_bytes.specs.StateBytes.{bytesBelow, bytesOf, column, wordOf}
@@ -31,7 +31,7 @@ pub column-made : (b : Bytes) (x r₀ r₁ r₂ r₃ r₄ : ℕ)
     → r₀ ≡ unle (take 8 (drop (8 * x) b)) → r₁ ≡ unle (take 8 (drop (8 * x + 32) b)) → r₂ ≡ unle (take 8 (drop (8 * x + 64) b))
     → r₃ ≡ unle (take 8 (drop (8 * x + 96) b)) → r₄ ≡ unle (take 8 (drop (8 * x + 128) b))
     → r₀ ∷ r₁ ∷ r₂ ∷ r₃ ∷ r₄ ∷ [] ≡ column b x
-unfolding column
+unfolding column leAt
 column-made b x r₀ r₁ r₂ r₃ r₄ e₀ e₁ e₂ e₃ e₄ i =
     (e₀ ∙ at (8 * x) (8 * (x + 4 * 0)) (omega arith)) i
     ∷ (e₁ ∙ at (8 * x + 32) (8 * (x + 4 * 1)) (omega arith)) i

@@ -2,7 +2,7 @@
 -- Assumes nothing.
 use mathlib.Core.Path.{_≡_, refl, sym, ap, _∙_}
 use mathlib.Core.List.{List, [], _∷_}
-use Prim.Native.Nat.{ℕ, zero, suc, _^_, _<_}
+use Prim.Native.Nat.{ℕ, zero, suc, _<_}
 use lib.ListN.{getD, length}
 use mir.Syntax.{w64}
 use mir.Val.{Val}
@@ -15,11 +15,13 @@ use native.Mathlib.Omega.{arith}
 use Rattle.permutation.specs.Permutation.{P}
 use Rattle.permutation.specs.State.{State, at, state, tabulate}
 use Rattle.bytes_le.proofs.Laws.{unle-8}
-use Rattle.state_bytes.specs.StateBytes.{bytesOf, permuted, stateOf}
+use Rattle.bits.specs.Bits.{wordRange}
+use Rattle.bytes_le.specs.Bytes.{leAt}
+use Rattle.state_bytes.specs.StateBytes.{bytesOf, column, permuted, stateOf}
 use Rattle.state_bytes.proofs.Words.{Shape}
 
-pub there-and-back : (f : ℕ → ℕ → ℕ) → ((x y : ℕ) → f x y < 18446744073709551616) → stateOf (bytesOf (state f)) ≡ state f
-unfolding stateOf bytesOf
+pub there-and-back : (f : ℕ → ℕ → ℕ) → ((x y : ℕ) → f x y < wordRange) → stateOf (bytesOf (state f)) ≡ state f
+unfolding stateOf bytesOf column leAt
 there-and-back f h i =
     (unle-8 (f 0 0) (h 0 0) i ∷ unle-8 (f 0 1) (h 0 1) i ∷ unle-8 (f 0 2) (h 0 2) i ∷ unle-8 (f 0 3) (h 0 3) i ∷ unle-8 (f 0 4) (h 0 4) i ∷ [])
     ∷ (unle-8 (f 1 0) (h 1 0) i ∷ unle-8 (f 1 1) (h 1 1) i ∷ unle-8 (f 1 2) (h 1 2) i ∷ unle-8 (f 1 3) (h 1 3) i ∷ unle-8 (f 1 4) (h 1 4) i ∷ [])
@@ -51,7 +53,7 @@ state-made (a ∷ b ∷ c ∷ d ∷ []) h = λ i.
 state-made (a ∷ b ∷ c ∷ d ∷ e ∷ r) h = let z : length (a ∷ b ∷ c ∷ d ∷ e ∷ r) ≡ 4 = h .four in absurd (omega arith)
 
 -- n rounds on the words are n rounds on the bytes
-pub permuted-bytes : (n : ℕ) (s : State) → Shape s → ((x y : ℕ) → at s x y < 2 ^ 64) → bytesOf (P n s) ≡ permuted n (bytesOf s)
+pub permuted-bytes : (n : ℕ) (s : State) → Shape s → ((x y : ℕ) → at s x y < wordRange) → bytesOf (P n s) ≡ permuted n (bytesOf s)
 unfolding permuted
 permuted-bytes n s h l =
     let e : s ≡ state (at s) = state-made s h in

@@ -1,4 +1,4 @@
--- A word of a state that changes: eight of its bytes change.
+-- A word of a state changes: eight of its bytes change.
 -- Assumes nothing.
 use mathlib.Core.Path.{_≡_, refl, sym, ap, ap₂, _∙_}
 use mathlib.Core.List.{List, [], _++_}
@@ -74,7 +74,7 @@ module _ (s : State) (h : Shape s) (w : ℕ) (hw : w < 20) (k : ℕ) where
       ∙ sym (put-last (bytesBelow s n) (le 8 (wordOf s n)) (8 * w) (le 8 k) (omega arith) refl))
       (le-or-lt (suc w) n)
 
-  -- the bytes of a wordOf that changes
+  -- the bytes of a state where word w changes
   pub bytes-set-word : bytesOf (setWord s (w % 4) (w / 4) k) ≡ putBytes (bytesOf s) (8 * w) (le 8 k)
   unfolding bytesOf
   bytes-set-word = above 20 hw

@@ -1,11 +1,15 @@
--- The state of ICEPOLE as its 160 bytes (003, 2.3; 01, "The permutation"): bit z of word number w = x + 4y is state bit 64w + z, and byte j covers bits 8j to 8j + 7, low bit first.
+-- The state of ICEPOLE as its bytes (003, 2.3; 01, "The permutation"): bit z of word number w = x + 4y is state bit 64w + z, and byte j covers bits 8j to 8j + 7,
+-- low bit first.
 -- Assumes nothing.
-use mathlib.Core.List.{List, [], _∷_, _++_}
+use mathlib.Core.List.{List, [], _++_}
 use Prim.Native.Nat.{ℕ, zero, suc, _+_, _*_, _/_, _%_}
-use lib.ListN.{take, drop}
-use Rattle.permutation.specs.State.{State, tabulate, at, state}
+use Rattle.permutation.specs.State.{State, tabulate, at}
 use Rattle.permutation.specs.Permutation.{P, start}
-use Rattle.bytes_le.specs.Bytes.{Bytes, le, unle}
+use Rattle.bytes_le.specs.Bytes.{Bytes, le, leAt}
+
+-- how many bytes a state has: four columns of five words of eight
+abbrev pub stateLength : ℕ
+stateLength = 160
 
 -- word number w: S[x][y] with w = x + 4y
 abbrev pub wordOf : State → ℕ → ℕ
@@ -16,17 +20,17 @@ abbrev pub bytesBelow : State → ℕ → Bytes
 bytesBelow s zero = []
 bytesBelow s (suc w) = bytesBelow s w ++ le 8 (wordOf s w)
 
--- the 160 bytes of a state
+-- the bytes of a state
 unfoldable pub bytesOf : State → Bytes
 bytesOf s = bytesBelow s 20
 
 -- column x of the state whose bytes are v
 unfoldable pub column : Bytes → ℕ → List ℕ
-column v x = tabulate 5 (λ y. unle (take 8 (drop (8 * (x + 4 * y)) v)))
+column v x = tabulate 5 (λ y. leAt 8 v (8 * (x + 4 * y)))
 
 -- the state whose bytes are v
 unfoldable pub stateOf : Bytes → State
-stateOf v = state (λ x y. unle (take 8 (drop (8 * (x + 4 * y)) v)))
+stateOf v = tabulate 4 (column v)
 
 -- the first n rounds, on the bytes
 unfoldable pub permuted : ℕ → Bytes → Bytes

@@ -1,14 +1,17 @@
-// The state of ICEPOLE as its 160 bytes, and back.
+// The state of ICEPOLE as its bytes, and back.
 ghost use mathlib.Core.Path.{_≡_};
 ghost use Prim.Native.Nat.{_<_};
 ghost use lib.ListN.{length};
-ghost use Rattle.state_bytes.specs.StateBytes.{bytesOf, stateOf, permuted, column};
+ghost use Rattle.state_bytes.specs.StateBytes.{stateLength, bytesOf, stateOf, permuted, column};
 
 type State = [[u64; 5]; 4];
 
+// Bytes of a state.
+pub const STATE_BYTES: usize = 160;
+
 // Column x of the state whose bytes are b.
 fn load_column(b: &[u8], x: usize) -> [u64; 5]
-    requires { ⌜ (x < 4) × (length (now b) ≡ 160) ⌝ }
+    requires { ⌜ (x < 4) × (length (now b) ≡ stateLength) ⌝ }
     ensures { λ r. ⌜ r ≡ column (now (b .entry)) x ⌝ }
 {
     let at = 8 * x;
@@ -22,7 +25,7 @@ fn load_column(b: &[u8], x: usize) -> [u64; 5]
 }
 
 // The state whose bytes are v.
-pub fn from_bytes(v: [u8; 160]) -> State
+pub fn from_bytes(v: [u8; STATE_BYTES]) -> State
     ensures { λ r. ⌜ r ≡ stateOf v ⌝ }
 {
     [
@@ -34,10 +37,10 @@ pub fn from_bytes(v: [u8; 160]) -> State
 }
 
 // The bytes of a state.
-pub fn to_bytes(s: State) -> [u8; 160]
+pub fn to_bytes(s: State) -> [u8; STATE_BYTES]
     ensures { λ r. ⌜ r ≡ bytesOf s ⌝ }
 {
-    let mut b = [0u8; 160];
+    let mut b = [0u8; STATE_BYTES];
     let mut w: usize = 0;
     while w < 20 {
         let x = w % 4;

@@ -15,7 +15,8 @@ use Rattle.icepole.specs.Answers.{unless}
 use Rattle.strips.specs.declared.StripState.{StripState}
 use Rattle.strips.specs.declared.StripAnswer.{StripAnswer}
 use Rattle.strips.specs.Machine.{ended, fed, fedBytes}
-use Rattle.strips.specs.Answers.{afterEnd, afterStrip, answered, block, endAnswer, endNumber, endOutput, endRefusal, heldIn, notStarted, startAnswer, startNumber, startOutput, startRefusal, started, stripAnswer, stripNumber, stripOutput, stripRefusal}
+use Rattle.strips.specs.Answers.{answered, block, heldIn, notStarted, started, startAnswer, startNumber, startOutput, startRefusal}
+use Rattle.strips.specs.Answers.{afterEnd, afterStrip, endAnswer, endNumber, endOutput, endRefusal, stripAnswer, stripNumber, stripOutput, stripRefusal}
 
 abbrev told : ℕ → ℕ → StripState → StripAnswer
 told num count s = record { refusal = num; mark = 0; count = count; state = s }

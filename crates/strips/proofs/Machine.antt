@@ -14,11 +14,11 @@ use lib.ListN.{length, getD, take, drop, length-append, length-drop, length-set,
 use lib.Seq.{length-take-le}
 use Rattle.bytes_le.specs.Bytes.{Bytes}
 use Rattle.state_bytes.proofs.Lengths.{length-permuted}
-use Rattle.icepole.specs.Sealing.{_⊕₈_, xorWith, absorb, absorbMessage, encrypt, tag}
+use Rattle.icepole.specs.Sealing.{_⊕₈_, xorAt, xorWith, absorb, finish, absorbMessage, encrypt, tag}
 use Rattle.icepole.proofs.Xor.{getD-xor-with, xor-none, xor-snoc, xor-with-snoc}
 use Rattle.icepole.proofs.Steps.{padded}
 use Rattle.icepole.proofs.Blocks.{by-blocks, encrypt-last, encrypt-more, length-absorb, message-last, message-more}
-use Rattle.strips.specs.Machine.{Held, held, xorAt, finish, makeRoom, step, cipherByte, fed, fedBytes, fillOf, ended}
+use Rattle.strips.specs.Machine.{Held, held, makeRoom, step, cipherByte, fed, fedBytes, fillOf, ended}
 
 -- ---- a strip after a strip
 pub fed-join : (r : ℕ) (h : Held) (s t : Bytes) → fed r h (s ++ t) ≡ fed r (fed r h s) t
@@ -33,7 +33,7 @@ pub length-fed : (r : ℕ) (h : Held) (m : Bytes) → length (fedBytes r h m) �
 length-fed r h [] = refl
 length-fed r h (x ∷ m) = ap suc (length-fed r (step r h x) m)
 
--- ---- the state keeps its 160 bytes
+-- ---- the state keeps its length
 length-room : (r : ℕ) (h : Held) → length (h .state) ≡ 160 → length (makeRoom r h .state) ≡ 160
 unfolding makeRoom
 length-room r h l = by (eqb (h .fill) r)

@@ -1,66 +1,42 @@
 -- The refusal numbers: each from the first condition that holds, and what number 0 tells.
 -- Assumes nothing.
-use mathlib.Core.Path.{_≡_, refl, sym, ap, ap₂, _∙_}
-use mathlib.Core.Bool.{Bool, true, false, cond, not, _||_}
-use Prim.Native.Nat.{ℕ, zero, suc, _+_, _≤_, _<_}
+use mathlib.Core.Path.{_≡_, refl, sym, ap, _∙_}
+use mathlib.Core.Bool.{Bool, true, false, _||_}
+use Prim.Native.Nat.{ℕ, _+_, _≤_, _<_}
 use native.Mathlib.Omega.{arith}
-use borrow.Author.Tests.{eq-eqb, eqb-true, le-ltb, lt-ltb, ltb-false, not-false}
-use lib.Dec.{eqb, ltb}
+use borrow.Author.Tests.{le-ltb, lt-ltb, ltb-false}
+use lib.Dec.{ltb}
 use Rattle.icepole.specs.Answers.{maxLength, sealNumber}
 use Rattle.icepole.specs.declared.Sizes.{Sizes}
-use Rattle.icepole.proofs.Numbers.{neither, passed, seal-0, seal-fits, stands}
+use Rattle.icepole.proofs.Numbers.{SealFits, neither, passed, seal-0, seal-fits}
 use Rattle.strips.specs.Answers.{startNumber, stripNumber, endNumber}
 
--- ---- start, by the number of sealing no message into an output that is long enough
-module _ (q : Sizes) (k n s a o : ℕ) where
-  abbrev bySeal : ℕ
-  bySeal = sealNumber q k n s a 0 (q .secret + 16)
+-- ---- start: sealing no message
+-- every output with room gives the same number
+seal-room : (q : Sizes) (k n s a m o o′ : ℕ) → q .secret + (m + 16) ≤ o → q .secret + (m + 16) ≤ o′ → sealNumber q k n s a m o ≡ sealNumber q k n s a m o′
+unfolding sealNumber
+seal-room q k n s a m o o′ h h′ = rw (le-ltb o (q .secret + (m + 16)) h, le-ltb o′ (q .secret + (m + 16)) h′) refl
 
-  pub start-stands : (num : ℕ) → bySeal ≡ suc num → startNumber q k n s a o ≡ suc num
-  unfolding sealNumber startNumber
-  start-stands num e =
-      stands (not (eqb k (q .key))) 1 _ _ num
-      (stands (not (eqb n (q .nonce))) 2 _ _ num
-      (stands (not (eqb s (q .secret))) 3 _ _ num
-      (λ (e : cond (ltb maxLength a || false) 4 (cond (ltb (q .secret + 16) (q .secret + (0 + 16))) 5 0) ≡ suc num).
-      stands (ltb maxLength a) 4 0 _ num (λ (e : 0 ≡ suc num). absurd (omega arith)) (sym (ap₂ (λ (x y : Bool). cond x 4 (cond y 5 0)) (or-false (ltb maxLength a)) enough) ∙ e)))) e
-    where
-      or-false : (b : Bool) → (b || false) ≡ b
-      or-false true = refl
-      or-false false = refl
+-- the code looks at the output, or at no more of it than the secret number takes
+pub start-all : (q : Sizes) (k n s a o room : ℕ) → room ≡ o → sealNumber q k n s a 0 (room + 16) ≡ startNumber q k n s a o
+unfolding startNumber
+start-all q k n s a o room e = ap (λ (r : ℕ). sealNumber q k n s a 0 (r + 16)) e
 
-      enough : ltb (q .secret + 16) (q .secret + (0 + 16)) ≡ false
-      enough = le-ltb (q .secret + 16) (q .secret + (0 + 16)) (omega arith)
+pub start-cut : (q : Sizes) (k n s a o room : ℕ) → q .secret ≤ o → room ≡ q .secret → sealNumber q k n s a 0 (room + 16) ≡ startNumber q k n s a o
+unfolding startNumber
+start-cut q k n s a o room h e = seal-room q k n s a 0 (room + 16) (o + 16) (omega arith) (omega arith)
 
-  pub start-5 : bySeal ≡ 0 → o < q .secret → startNumber q k n s a o ≡ 5
-  unfolding startNumber
-  start-5 e h =
-      let w = seal-fits q k n s a 0 (q .secret + 16) e in
-      simp (eq-eqb k (q .key) (w .key), eq-eqb n (q .nonce) (w .nonce), eq-eqb s (q .secret) (w .secret), le-ltb maxLength a (w .associated), lt-ltb o (q .secret) h)
+pub start-fits : (q : Sizes) (k n s a o : ℕ) → startNumber q k n s a o ≡ 0 → SealFits q k n s a 0 (o + 16)
+unfolding startNumber
+start-fits q k n s a o = seal-fits q k n s a 0 (o + 16)
 
-  pub start-0 : bySeal ≡ 0 → q .secret ≤ o → startNumber q k n s a o ≡ 0
-  unfolding startNumber
-  start-0 e h =
-      let w = seal-fits q k n s a 0 (q .secret + 16) e in
-      simp (eq-eqb k (q .key) (w .key), eq-eqb n (q .nonce) (w .nonce), eq-eqb s (q .secret) (w .secret), le-ltb maxLength a (w .associated), le-ltb o (q .secret) h)
+pub start-fits-by : (q q′ : Sizes) → q ≡ q′ → (k n s a o : ℕ) → startNumber q′ k n s a o ≡ 0 → SealFits q k n s a 0 (o + 16)
+start-fits-by q q′ eq k n s a o e = start-fits q k n s a o (ap (λ (q : Sizes). startNumber q k n s a o) eq ∙ e)
 
--- the same in the terms of the code: num is the number that sealing gave, and the code reads the sizes as q′
-module _ (q q′ : Sizes) (eq : q′ ≡ q) (k n s a o num : ℕ) (e : num ≡ sealNumber q k n s a 0 (q′ .secret + 16)) where
-  given : num ≡ sealNumber q k n s a 0 (q .secret + 16)
-  given = e ∙ ap (λ (q′ : Sizes). sealNumber q k n s a 0 (q′ .secret + 16)) eq
-
-  pub start-refused-by : (num ≡ 0 → ⊥) → num ≡ startNumber q k n s a o
-  start-refused-by h = by num refl
-    where
-      by : (i : ℕ) → num ≡ i → num ≡ startNumber q k n s a o
-      by zero z = absurd (h z)
-      by (suc i) z = z ∙ sym (start-stands q k n s a o i (sym given ∙ z))
-
-  pub start-refused-5 : num ≡ 0 → o < q′ .secret → 5 ≡ startNumber q k n s a o
-  start-refused-5 z h = sym (start-5 q k n s a o (sym given ∙ z) (rw eq at h))
-
-  pub start-accepted-by : num ≡ 0 → q′ .secret ≤ o → 0 ≡ startNumber q k n s a o
-  start-accepted-by z h = sym (start-0 q k n s a o (sym given ∙ z) (rw eq at h))
+-- and what gives number 0
+pub start-accepted : (q : Sizes) (k n s a o : ℕ) → k ≡ q .key → n ≡ q .nonce → s ≡ q .secret → a ≤ maxLength → q .secret ≤ o → startNumber q k n s a o ≡ 0
+unfolding startNumber
+start-accepted q k n s a o hk hn hs ha ho = sym (seal-0 q k n s a 0 (o + 16) hk hn hs ha (omega arith) (omega arith))
 
 -- ---- strip and end
 -- whether a state takes no more
@@ -128,34 +104,3 @@ end-room f c o e = ltb-false _ _ (passed (ltb o 16) _ _ (passed (f || ltb maxLen
 pub end-open : (f : Bool) (c o : ℕ) → endNumber f c o ≡ 0 → f ≡ false
 unfolding endNumber
 end-open f c o e = neither f (ltb maxLength c) (passed (f || ltb maxLength c) _ _ e .0) .0
-
-pub record StartFits (q : Sizes) (k n s a o : ℕ) : Type 0 where
-  pub key : k ≡ q .key
-  pub nonce : n ≡ q .nonce
-  pub secret : s ≡ q .secret
-  pub associated : a ≤ maxLength
-  pub out : q .secret ≤ o
-
-pub start-fits : (q : Sizes) (k n s a o : ℕ) → startNumber q k n s a o ≡ 0 → StartFits q k n s a o
-unfolding startNumber
-start-fits q k n s a o e =
-    let p₁ = passed (not (eqb k (q .key))) _ _ e in
-    let p₂ = passed (not (eqb n (q .nonce))) _ _ (p₁ .1) in
-    let p₃ = passed (not (eqb s (q .secret))) _ _ (p₂ .1) in
-    let p₄ = passed (ltb maxLength a) _ _ (p₃ .1) in
-    let p₅ = passed (ltb o (q .secret)) _ _ (p₄ .1) in
-    record {
-      key = eqb-true _ _ (not-false _ (p₁ .0));
-      nonce = eqb-true _ _ (not-false _ (p₂ .0));
-      secret = eqb-true _ _ (not-false _ (p₃ .0));
-      associated = ltb-false _ _ (p₄ .0);
-      out = ltb-false _ _ (p₅ .0);
-    }
-
--- and what gives it
-pub start-accepted : (q : Sizes) (k n s a o : ℕ) → StartFits q k n s a o → startNumber q k n s a o ≡ 0
-start-accepted q k n s a o w =
-    start-0 q k n s a o (sym (seal-0 q k n s a 0 (q .secret + 16) (w .key) (w .nonce) (w .secret) (w .associated) (omega arith) (omega arith))) (w .out)
-
-pub start-fits-by : (q q′ : Sizes) → q ≡ q′ → (k n s a o : ℕ) → startNumber q′ k n s a o ≡ 0 → StartFits q k n s a o
-start-fits-by q q′ eq k n s a o e = start-fits q k n s a o (ap (λ (q : Sizes). startNumber q k n s a o) eq ∙ e)

@@ -5,14 +5,14 @@ use mathlib.Core.List.{[], _∷_, _++_}
 use Prim.Native.Nat.{ℕ, suc, _+_, _-_, _%_, _≤_, _<_}
 use native.Mathlib.Omega.{arith}
 use lib.Bits.{bitXor}
-use lib.ListN.{length, getD, set, take, drop, length-drop, take-append-drop}
+use lib.ListN.{length, getD, take, drop, length-drop, take-append-drop}
 use lib.Seq.{drop-drop, length-take-le}
 use Rattle.bytes_le.specs.Bytes.{Bytes, putBytes}
 use Rattle.bytes_le.proofs.Laws.{put-put}
-use Rattle.icepole.specs.Sealing.{_⊕₈_, absorb}
+use Rattle.icepole.specs.Sealing.{_⊕₈_, xorAt, absorb, finish}
 use Rattle.icepole.proofs.Steps.{length-part, part-snoc}
 use Rattle.icepole.proofs.Xor.{length-xor}
-use Rattle.strips.specs.Machine.{Held, held, xorAt, finish, makeRoom, fed, fedBytes, fillOf}
+use Rattle.strips.specs.Machine.{Held, held, makeRoom, fed, fedBytes, fillOf}
 use Rattle.strips.proofs.Machine.{across, bytes-join, bytes-more, fed-join, fed-more, length-fed, room-within}
 
 -- ---- one byte more within a block: j bytes of m from at on are done, and b holds them
@@ -27,7 +27,7 @@ module _ (m : Bytes) (at j : ℕ) (h : at + j < length m) (v : Bytes) (fill : �
   at-b : makeRoom 128 (fed 128 (held v fill) p) ≡ held b (fill + j)
   at-b = ap (makeRoom 128) (sym e) ∙ room-within 128 (omega arith) b (fill + j) hf
 
-  pub byte-fed : held (set b (fill + j) (bitXor (getD b (fill + j) 0) x)) (fill + (j + 1)) ≡ fed 128 (held v fill) (take (j + 1) (drop at m))
+  pub byte-fed : held (xorAt b (fill + j) x) (fill + (j + 1)) ≡ fed 128 (held v fill) (take (j + 1) (drop at m))
   byte-fed =
       let n : fill + (j + 1) ≡ fill + j + 1 = omega arith in
       ap (held (xorAt b (fill + j) x)) n

@@ -1,16 +1,17 @@
 -- What start, strip and end answer and leave in the lent output, for good and bad calls (01, "Afterwards" and "Turned down, by example"). ICEPOLE-128.
 -- Assumes nothing.
-use mathlib.Core.Bool.{Bool, true, false, cond, not, _||_}
+use mathlib.Core.Bool.{Bool, true, false, cond, _||_}
 use mathlib.Core.List.{[], _∷_}
 use Prim.Native.Nat.{ℕ, _+_}
 use lib.Dec.{eqb, ltb}
 use lib.ListN.{length, replicate}
 use Rattle.bytes_le.specs.Bytes.{Bytes, putBytes}
+use Rattle.state_bytes.specs.StateBytes.{stateLength}
 use Rattle.icepole.specs.declared.Sizes.{Sizes}
 use Rattle.icepole.specs.declared.Variant.the-variants.{Icepole128}
-use Rattle.icepole.specs.Variants.{sizes}
+use Rattle.icepole.specs.Variants.{sizes, tagLength}
 use Rattle.icepole.specs.Sealing.{_⊕₈_, keyed, ready}
-use Rattle.icepole.specs.Answers.{_when_, refusal, maxLength, unless}
+use Rattle.icepole.specs.Answers.{_when_, refusal, maxLength, sealNumber, unless}
 use Rattle.strips.specs.declared.StripState.{StripState}
 use Rattle.strips.specs.declared.StripAnswer.{StripAnswer}
 use Rattle.strips.specs.Machine.{Held, held, fed, fedBytes, fillOf, ended}
@@ -19,16 +20,10 @@ abbrev pub block : ℕ
 block = sizes Icepole128 .block
 
 -- ---- the numbers
--- k key, n nonce, s secret number, a associated data (both parts), o output: their lengths
+-- k key, n nonce, s secret number, a associated data (both parts), o output: their lengths. A start is turned down as sealing no message is, but needs no room
+-- for the tag
 unfoldable pub startNumber : Sizes → ℕ → ℕ → ℕ → ℕ → ℕ → ℕ
-startNumber q k n s a o =
-    refusal
-    ((1 when not (eqb k (q .key)))
-    ∷ (2 when not (eqb n (q .nonce)))
-    ∷ (3 when not (eqb s (q .secret)))
-    ∷ (4 when ltb maxLength a)
-    ∷ (5 when ltb o (q .secret))
-    ∷ [])
+startNumber q k n s a o = sealNumber q k n s a 0 (o + tagLength)
 
 -- whether the state is finished, the bytes it has counted, the strip's length, the output's
 unfoldable pub stripNumber : Bool → ℕ → ℕ → ℕ → ℕ
@@ -40,7 +35,7 @@ stripNumber finished count m o =
     ∷ [])
 
 unfoldable pub endNumber : Bool → ℕ → ℕ → ℕ
-endNumber finished count o = refusal ((14 when (finished || ltb maxLength count)) ∷ (5 when ltb o 16) ∷ [])
+endNumber finished count o = refusal ((14 when (finished || ltb maxLength count)) ∷ (5 when ltb o tagLength) ∷ [])
 
 -- ---- answers: the state that a call leaves and the count of bytes written, or the state it was given and zeros
 abbrev pub answered : ℕ → StripState → StripState → ℕ → StripAnswer
@@ -49,7 +44,7 @@ answered num was is count = record { refusal = num; mark = 0; count = cond (eqb 
 -- ---- start
 -- what a start that is turned down returns
 abbrev pub notStarted : StripState
-notStarted = record { bytes = replicate 160 0; count = 0; finished = true }
+notStarted = record { bytes = replicate stateLength 0; count = 0; finished = true }
 
 module _ (key nonce secret ad out : Bytes) where
   unfoldable pub startRefusal : ℕ
@@ -91,7 +86,7 @@ module _ (s : StripState) (out : Bytes) where
   afterEnd = record { bytes = s .bytes; count = s .count; finished = true }
 
   unfoldable pub endAnswer : StripAnswer
-  endAnswer = answered endRefusal s afterEnd 16
+  endAnswer = answered endRefusal s afterEnd tagLength
 
   -- the tag
   unfoldable pub endOutput : Bytes

@@ -1,14 +1,14 @@
--- A message in strips (01, "Afterwards"), byte by byte, in blocks of r bytes. A block that is full waits until one more byte comes, for its frame bit says whether it was the last.
+-- A message in strips (01, "Afterwards"), byte by byte, in blocks of r bytes. A block that is full waits until one more byte comes, for its frame bit says
+-- whether it was the last.
 -- Assumes nothing.
 use mathlib.Core.Bool.{cond}
 use mathlib.Core.List.{[], _∷_}
 use Prim.Native.Nat.{ℕ, zero, suc, _+_, _%_}
 use lib.Bits.{bitXor}
 use lib.Dec.{eqb}
-use lib.ListN.{getD, set}
+use lib.ListN.{getD}
 use Rattle.bytes_le.specs.Bytes.{Bytes}
-use Rattle.state_bytes.specs.StateBytes.{permuted}
-use Rattle.icepole.specs.Sealing.{tag}
+use Rattle.icepole.specs.Sealing.{xorAt, finish, tag}
 
 -- the state's bytes; the block that waits is xored in, and has `fill` bytes
 pub record Held : Type 0 where
@@ -17,14 +17,6 @@ pub record Held : Type 0 where
 
 abbrev pub held : Bytes → ℕ → Held
 held v n = record { state = v; fill = n }
-
--- v with x xored into byte i
-abbrev pub xorAt : Bytes → ℕ → ℕ → Bytes
-xorAt v i x = set v i (bitXor (getD v i 0) x)
-
--- the block that waits is padded, then P6
-abbrev pub finish : Bytes → ℕ → ℕ → Bytes
-finish v fill frame = permuted 6 (xorAt v fill (frame + 2))
 
 module _ (r : ℕ) where
   -- one more byte comes: a full block was not the last

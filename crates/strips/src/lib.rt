@@ -1,8 +1,14 @@
-// A message sealed in strips under ICEPOLE-128 (01, "Afterwards"): start, then strips of message, then the end. For every cutting the bytes equal whole sealing.
+// A message sealed in strips under ICEPOLE-128 (01, "Afterwards"): start, then strips of message, then the end. For every cutting the bytes equal whole
+// sealing.
+use icepole::BLOCK_BYTES;
+use icepole::BLOCK_WORDS;
 use icepole::DATA_TOO_LONG;
 use icepole::MAX_LENGTH;
 use icepole::OUTPUT_TOO_SHORT;
+use icepole::SECRET_BYTES;
+use icepole::TAG_BYTES;
 use icepole::Variant;
+use state_bytes::STATE_BYTES;
 ghost use mathlib.Core.Path.{_≡_};
 ghost use mathlib.Core.List.{_++_};
 ghost use Prim.Native.Nat.{_+_, _≤_};
@@ -12,28 +18,20 @@ ghost use Rattle.icepole.specs.declared.Variant.the-variants.{Icepole128};
 ghost use Rattle.icepole.specs.Variants.{sizes};
 ghost use Rattle.state_bytes.specs.StateBytes.{bytesOf};
 ghost use Rattle.strips.specs.Machine.{held, fed, fedBytes, fillOf, ended};
-ghost use Rattle.strips.specs.Answers.{startNumber, stripNumber, endNumber, startAnswer, startOutput, stripAnswer, stripOutput, endAnswer, endOutput};
+ghost use Rattle.strips.specs.Answers.{block, startNumber, stripNumber, endNumber, startAnswer, startOutput, stripAnswer, stripOutput, endAnswer, endOutput};
 
 // Strip state finished, or its count too large (01, "Turned down, by example").
 pub const STRIP_STATE: u32 = 14;
 
-// Bytes of a block.
-const BLOCK: usize = 128;
-
-// Words of a block.
-const WORDS: usize = 16;
-
-// Bytes of the tag.
-const TAG: usize = 16;
-
 // Between two strips: the state's bytes, with the block that waits xored in, and how many bytes of the message came. It may be made by anybody.
 pub struct StripState {
-    pub bytes: [u8; 160],
+    pub bytes: [u8; STATE_BYTES],
     pub count: usize,
     pub finished: bool,
 }
 
-// What each call answers: a refusal number with its mark, or the count of bytes written and the state for the next call. A call turned down returns the state it was given; a start, a finished one.
+// What each call answers: a refusal number with its mark, or the count of bytes written and the state for the next call. A call turned down returns the state it
+// was given; a start, a finished one.
 pub struct StripAnswer {
     pub refusal: u32,
     pub mark: u32,
@@ -42,7 +40,8 @@ pub struct StripAnswer {
 }
 
 // ---- the numbers, from the lengths of what is lent
-// A start is turned down as sealing no message is, but for the output, which needs no room for the tag.
+// A start is turned down as sealing no message is, but needs no room for the tag. An output longer than the secret number is as good as one of that length, to
+// which the tag's can be added without wrapping.
 pub fn start_number(
     key: usize,
     nonce: usize,
@@ -53,8 +52,11 @@ pub fn start_number(
 ) -> u32
     ensures { λ r. ⌜ r ≡ startNumber (sizes Icepole128) key nonce secret (first + second) out ⌝ }
 {
-    let q = icepole::sizes_of(Variant::Icepole128);
-    let number = icepole::seal_number(
+    let mut room = SECRET_BYTES;
+    if out < room {
+        room = out;
+    }
+    icepole::seal_number(
         Variant::Icepole128,
         key,
         nonce,
@@ -62,15 +64,8 @@ pub fn start_number(
         first,
         second,
         0,
-        q.secret + TAG,
-    );
-    if number != 0 {
-        return number;
-    }
-    if out < q.secret {
-        return OUTPUT_TOO_SHORT;
-    }
-    0
+        room + TAG_BYTES,
+    )
 }
 
 fn strip_number(finished: bool, count: usize, message: usize, out: usize) -> u32
@@ -100,7 +95,7 @@ fn end_number(finished: bool, count: usize, out: usize) -> u32
     if count > MAX_LENGTH {
         return STRIP_STATE;
     }
-    if out < TAG {
+    if out < TAG_BYTES {
         return OUTPUT_TOO_SHORT;
     }
     0
@@ -109,19 +104,26 @@ fn end_number(finished: bool, count: usize, out: usize) -> u32
 // ---- the bytes
 // How many bytes of the block that waits came, of so many in all.
 fn fill_of(count: usize) -> usize
-    ensures { λ r. ⌜ (r ≡ fillOf 128 count) × (r ≤ 128) ⌝ }
+    ensures { λ r. ⌜ (r ≡ fillOf block count) × (r ≤ block) ⌝ }
 {
     if count == 0 {
         return 0;
     }
-    (count - 1) % BLOCK + 1
+    (count - 1) % BLOCK_BYTES + 1
 }
 
 // Seals the n bytes of m from index at on within the block that waits, into out from index at on.
-fn feed_block(v: [u8; 160], fill: usize, m: &[u8], at: usize, n: usize, out: &mut [u8]) -> [u8; 160]
-    requires { ⌜ (fill + n ≤ 128) × (at + n ≤ length (now m)) × (at + n ≤ length (now out)) ⌝ }
-    ensures { λ r. ⌜ (held r (fill + n) ≡ fed 128 (held v fill) (take n (drop at (now (m .entry)))))
-        × (now (out .exit) ≡ putBytes (now (out .entry)) at (fedBytes 128 (held v fill) (take n (drop at (now (m .entry)))))) ⌝ }
+fn feed_block(
+    v: [u8; STATE_BYTES],
+    fill: usize,
+    m: &[u8],
+    at: usize,
+    n: usize,
+    out: &mut [u8],
+) -> [u8; STATE_BYTES]
+    requires { ⌜ (fill + n ≤ block) × (at + n ≤ length (now m)) × (at + n ≤ length (now out)) ⌝ }
+    ensures { λ r. ⌜ (held r (fill + n) ≡ fed block (held v fill) (take n (drop at (now (m .entry)))))
+        × (now (out .exit) ≡ putBytes (now (out .entry)) at (fedBytes block (held v fill) (take n (drop at (now (m .entry)))))) ⌝ }
 {
     let mut b = v;
     let mut j: usize = 0;
@@ -135,33 +137,33 @@ fn feed_block(v: [u8; 160], fill: usize, m: &[u8], at: usize, n: usize, out: &mu
 }
 
 // The same for the bytes of m from index from on, where a block begins. Full blocks but the last go word by word.
-fn feed_blocks(v: [[u64; 5]; 4], m: &[u8], from: usize, out: &mut [u8]) -> [u8; 160]
+fn feed_blocks(v: [[u64; 5]; 4], m: &[u8], from: usize, out: &mut [u8]) -> [u8; STATE_BYTES]
     requires { ⌜ (from ≤ length (now m)) × (length (now m) ≤ length (now out)) ⌝ }
-    ensures { λ r. ⌜ (r ≡ fed 128 (held (bytesOf v) 0) (drop from (now (m .entry))) .state)
-        × (now (out .exit) ≡ putBytes (now (out .entry)) from (fedBytes 128 (held (bytesOf v) 0) (drop from (now (m .entry))))) ⌝ }
+    ensures { λ r. ⌜ (r ≡ fed block (held (bytesOf v) 0) (drop from (now (m .entry))) .state)
+        × (now (out .exit) ≡ putBytes (now (out .entry)) from (fedBytes block (held (bytesOf v) 0) (drop from (now (m .entry))))) ⌝ }
 {
     let mut s = v;
     let mut at = from;
-    while BLOCK < m.len() - at {
-        let t = icepole::encrypt_words(s, m, at, WORDS, out, at);
+    while BLOCK_BYTES < m.len() - at {
+        let t = icepole::encrypt_words(s, m, at, BLOCK_WORDS, out, at);
         s = t;
-        at += BLOCK;
+        at += BLOCK_BYTES;
     }
     feed_block(state_bytes::to_bytes(s), 0, m, at, m.len() - at, out)
 }
 
 // The state's bytes after a strip, which is put into out at its front, sealed.
-fn feed(v: [u8; 160], fill: usize, m: &[u8], out: &mut [u8]) -> [u8; 160]
-    requires { ⌜ (fill ≤ 128) × (length (now m) ≤ length (now out)) ⌝ }
-    ensures { λ r. ⌜ (r ≡ fed 128 (held v fill) (now (m .entry)) .state)
-        × (now (out .exit) ≡ putBytes (now (out .entry)) 0 (fedBytes 128 (held v fill) (now (m .entry)))) ⌝ }
+fn feed(v: [u8; STATE_BYTES], fill: usize, m: &[u8], out: &mut [u8]) -> [u8; STATE_BYTES]
+    requires { ⌜ (fill ≤ block) × (length (now m) ≤ length (now out)) ⌝ }
+    ensures { λ r. ⌜ (r ≡ fed block (held v fill) (now (m .entry)) .state)
+        × (now (out .exit) ≡ putBytes (now (out .entry)) 0 (fedBytes block (held v fill) (now (m .entry)))) ⌝ }
 {
-    let room = BLOCK - fill;
+    let room = BLOCK_BYTES - fill;
     if m.len() <= room {
         return feed_block(v, fill, m, 0, m.len(), out);
     }
     let b = feed_block(v, fill, m, 0, room, out);
-    feed_blocks(icepole::finish_bytes(b, BLOCK, 1), m, room, out)
+    feed_blocks(icepole::finish_bytes(b, BLOCK_BYTES, 1), m, room, out)
 }
 
 // ---- the calls
@@ -192,7 +194,7 @@ pub fn start(
             mark: 0,
             count: 0,
             state: StripState {
-                bytes: [0u8; 160],
+                bytes: [0u8; STATE_BYTES],
                 count: 0,
                 finished: true,
             },
@@ -254,12 +256,12 @@ pub fn end(s: StripState, out: &mut [u8]) -> StripAnswer
     }
     let v = s.bytes;
     let w = state_bytes::to_bytes(icepole::finish_bytes(v, fill_of(s.count), 0));
-    bytes_le::put_bytes(out, 0, &w[0..16]);
+    bytes_le::put_bytes(out, 0, &w[0..TAG_BYTES]);
     let finished = true;
     StripAnswer {
         refusal: 0,
         mark: 0,
-        count: TAG,
+        count: TAG_BYTES,
         state: StripState {
             bytes: v,
             count: s.count,

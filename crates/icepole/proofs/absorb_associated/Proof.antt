@@ -31,7 +31,8 @@ loop-again c =
     let g = a .second .now in
     let e : length (a .first .now ++ a .second .now) ≡ length (a .first .now) + length (a .second .now) = length-append (a .first .now) (a .second .now) in (
       omega arith,
-      associated-turn r (omega arith) (f ++ g) (l .loop .at) (bytesOf (l .loop .s)) (bytesOf (c .absorb-either .result)) (absorbAssociated r (bytesOf (a .v)) (f ++ g)) (rw e (c .before .loop-test .taken)) (l .loop .inv .1) (c .absorb-either .ensures),
+      associated-turn r (omega arith) (f ++ g) (l .loop .at) (bytesOf (l .loop .s)) (bytesOf (c .absorb-either .result)) (absorbAssociated r (bytesOf (a .v)) (f ++ g))
+          (rw e (c .before .loop-test .taken)) (l .loop .inv .1) (c .absorb-either .ensures),
     )
 
 returns : tie.Need-returns Inv-loop μ-loop

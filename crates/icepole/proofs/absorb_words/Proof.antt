@@ -10,13 +10,16 @@ use Rattle.state_bytes.proofs.Lengths.{length-bytes}
 use Rattle.state_bytes.proofs.View.{shape}
 use Rattle.state_bytes.proofs.Words.{Shape, shape-set-word}
 use Rattle.icepole.specs.Sealing.{xorWith}
-use Rattle.icepole.proofs.Full.{full, word-xor-with}
-use Rattle.icepole.proofs.Steps.{length-part}
+use Rattle.icepole.proofs.Full.{word-xor-with}
+use Rattle.icepole.proofs.Steps.{length-part, padded}
 use Rattle.icepole.proofs.absorb_words.Statement.{statement}
 use Rattle.icepole.proofs.absorb_words.Tie as tie
 
 abbrev Inv-loop : tie.InvT-loop
-Inv-loop d at n frame t₀ w₀ t w = (w ≤ n) × (bytesOf t ≡ xorWith (bytesOf t₀) (take (8 * w) (drop at d))) × Shape t
+Inv-loop d at n frame t₀ w₀ t w =
+    (w ≤ n)
+    × (bytesOf t ≡ xorWith (bytesOf t₀) (take (8 * w) (drop at d)))
+    × Shape t
 
 abbrev μ-loop : tie.MeasureT-loop
 μ-loop d at n frame t₀ w₀ t w = n - w
@@ -47,7 +50,7 @@ returns c =
     let lv : length (bytesOf (a .s)) ≡ 160 = length-bytes (a .s) in
     let e : l .loop .w ≡ a .n = omega arith in
     let lp : length (take (8 * a .n) (drop (a .at) (a .d .now))) ≡ 8 * a .n = length-part (a .d .now) (a .at) (8 * a .n) (omega arith) in
-    full (l .loop .t) (l .loop .inv .2) (a .n) (omega arith) (bytesOf (a .s)) (take (8 * a .n) (drop (a .at) (a .d .now))) lv lp (a .frame) (omega arith) _
+    padded (bytesOf (a .s)) (take (8 * a .n) (drop (a .at) (a .d .now))) (bytesOf (l .loop .t)) (8 * a .n) (a .frame) _ lp (omega arith)
     (l .loop .inv .1 ∙ ap (λ (k : ℕ). xorWith (bytesOf (a .s)) (take (8 * k) (drop (a .at) (a .d .now)))) e) (c .finish-words .ensures)
 
 pub absorb-words-spec : {M : Type 1} → statement M

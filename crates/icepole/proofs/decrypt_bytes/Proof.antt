@@ -15,7 +15,12 @@ use Rattle.icepole.proofs.decrypt_bytes.Statement.{statement}
 use Rattle.icepole.proofs.decrypt_bytes.Tie as tie
 
 abbrev Inv-loop : tie.InvT-loop
-Inv-loop c at n frame out₀ to b₀ j₀ out b j = (j ≤ n) × (b ≡ xorWith b₀ (b₀ ⊕₈ take j (drop at c))) × (length b₀ ≡ 160) × (out ≡ putBytes out₀ to (b₀ ⊕₈ take j (drop at c))) × (length out ≡ length out₀)
+Inv-loop c at n frame out₀ to b₀ j₀ out b j =
+    (j ≤ n)
+    × (b ≡ xorWith b₀ (b₀ ⊕₈ take j (drop at c)))
+    × (length b₀ ≡ 160)
+    × (out ≡ putBytes out₀ to (b₀ ⊕₈ take j (drop at c)))
+    × (length out ≡ length out₀)
 
 abbrev μ-loop : tie.MeasureT-loop
 μ-loop c at n frame out₀ to b₀ j₀ out b j = n - j

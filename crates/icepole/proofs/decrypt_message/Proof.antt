@@ -18,7 +18,11 @@ use Rattle.icepole.proofs.decrypt_message.Statement.{statement}
 use Rattle.icepole.proofs.decrypt_message.Tie as tie
 
 abbrev Inv-loop : tie.InvT-loop
-Inv-loop n c from l out₀ r s₀ at₀ out s at = (at ≤ l) × (decrypt r (bytesOf s) (drop at (take l (drop from c))) ≡ drop at (decrypt r (bytesOf s₀) (take l (drop from c)))) × (out ≡ putBytes out₀ 0 (take at (decrypt r (bytesOf s₀) (take l (drop from c))))) × (length out ≡ length out₀)
+Inv-loop n c from l out₀ r s₀ at₀ out s at =
+    (at ≤ l)
+    × (decrypt r (bytesOf s) (drop at (take l (drop from c))) ≡ drop at (decrypt r (bytesOf s₀) (take l (drop from c))))
+    × (out ≡ putBytes out₀ 0 (take at (decrypt r (bytesOf s₀) (take l (drop from c)))))
+    × (length out ≡ length out₀)
 
 abbrev μ-loop : tie.MeasureT-loop
 μ-loop n c from l out₀ r s₀ at₀ out s at = l - at
@@ -40,7 +44,8 @@ loop-again c =
     let lp : length (decrypt r v d) ≡ length d = length-decrypt r (omega arith) (omega arith) d v (length-bytes (a .v)) in
     let w = window (a .c .now) (a .from) (a .l) (l .loop .at) r (omega arith) (omega arith) in
     let z : 0 + l .loop .at ≡ l .loop .at = omega arith in
-    let t = decrypt-turn r (omega arith) d (l .loop .at) (omega arith) s (length-bytes (l .loop .s)) (a .out .now) (l .loop .out) _ (decrypt r v d) 0 lp (omega arith) (l .loop .inv .2) _ (rw ld (i .loop-test .taken)) (l .loop .inv .1)
+    let t = decrypt-turn r (omega arith) d (l .loop .at) (omega arith) s (length-bytes (l .loop .s))
+    (a .out .now) (l .loop .out) _ (decrypt r v d) 0 lp (omega arith) (l .loop .inv .2) _ (rw ld (i .loop-test .taken)) (l .loop .inv .1)
     (q .ensures .0 ∙ ap (λ (b : Bytes). absorb s (s ⊕₈ b) 1) w)
     (q .ensures .1 ∙ ap₂ (λ (k : ℕ) (b : Bytes). putBytes (l .loop .out) k (s ⊕₈ b)) (sym z) w) in (
       omega arith,
@@ -65,7 +70,8 @@ returns c =
     let k = a .l - l .loop .at in
     let w = window (a .c .now) (a .from) (a .l) (l .loop .at) (a .l - l .loop .at) (omega arith) (omega arith) in
     let z : 0 + l .loop .at ≡ l .loop .at = omega arith in
-    decrypt-end r (omega arith) d (l .loop .at) (omega arith) s (length-bytes (l .loop .s)) (a .out .now) (l .loop .out) _ (decrypt r v d) 0 lp (omega arith) (l .loop .inv .2) k (omega arith) (rw ld refl) (i .loop-test .left) (l .loop .inv .1)
+    decrypt-end r (omega arith) d (l .loop .at) (omega arith) s (length-bytes (l .loop .s))
+    (a .out .now) (l .loop .out) _ (decrypt r v d) 0 lp (omega arith) (l .loop .inv .2) k (omega arith) (rw ld refl) (i .loop-test .left) (l .loop .inv .1)
     (q .ensures
     ∙ ap (λ (s : Bytes). putBytes (l .loop .out) (l .loop .at) (s ⊕₈ take k (drop (a .from + l .loop .at) (a .c .now)))) y
     ∙ ap₂ (λ (k : ℕ) (b : Bytes). putBytes (l .loop .out) k (s ⊕₈ b)) (sym z) w)

@@ -16,7 +16,12 @@ use Rattle.icepole.proofs.encrypt_message.Statement.{statement}
 use Rattle.icepole.proofs.encrypt_message.Tie as tie
 
 abbrev Inv-loop : tie.InvT-loop
-Inv-loop n m out₀ to r s₀ at₀ out s at = (at ≤ length m) × (absorbMessage r (bytesOf s) (drop at m) ≡ absorbMessage r (bytesOf s₀) m) × (encrypt r (bytesOf s) (drop at m) ≡ drop at (encrypt r (bytesOf s₀) m)) × (out ≡ putBytes out₀ to (take at (encrypt r (bytesOf s₀) m))) × (length out ≡ length out₀)
+Inv-loop n m out₀ to r s₀ at₀ out s at =
+    (at ≤ length m)
+    × (absorbMessage r (bytesOf s) (drop at m) ≡ absorbMessage r (bytesOf s₀) m)
+    × (encrypt r (bytesOf s) (drop at m) ≡ drop at (encrypt r (bytesOf s₀) m))
+    × (out ≡ putBytes out₀ to (take at (encrypt r (bytesOf s₀) m)))
+    × (length out ≡ length out₀)
 
 abbrev μ-loop : tie.MeasureT-loop
 μ-loop n m out₀ to r s₀ at₀ out s at = length m - at
@@ -34,7 +39,8 @@ loop-again c =
     let v = bytesOf (a .v) in
     let s = bytesOf (l .loop .s) in
     let lc : length (encrypt (8 * a .n) (bytesOf (a .v)) (a .m .now)) ≡ length (a .m .now) = length-encrypt r (omega arith) (omega arith) (a .m .now) v (length-bytes (a .v)) in
-    let t = encrypt-turn r (omega arith) (a .m .now) (l .loop .at) (omega arith) s (length-bytes (l .loop .s)) (a .out .now) (l .loop .out) _ (encrypt r v (a .m .now)) (a .to) lc (omega arith) (l .loop .inv .3) _ (i .loop-test .taken) (l .loop .inv .2) (q .ensures .0) (q .ensures .1) in (
+    let t = encrypt-turn r (omega arith) (a .m .now) (l .loop .at) (omega arith) s (length-bytes (l .loop .s))
+    (a .out .now) (l .loop .out) _ (encrypt r v (a .m .now)) (a .to) lc (omega arith) (l .loop .inv .3) _ (i .loop-test .taken) (l .loop .inv .2) (q .ensures .0) (q .ensures .1) in (
       omega arith,
       message-turn r (omega arith) (a .m .now) (l .loop .at) s _ _ (i .loop-test .taken) (l .loop .inv .1) (q .ensures .0),
       t .0,
@@ -56,7 +62,8 @@ returns c =
     let lc : length (encrypt (8 * a .n) (bytesOf (a .v)) (a .m .now)) ≡ length (a .m .now) = length-encrypt r (omega arith) (omega arith) (a .m .now) v (length-bytes (a .v)) in (
       message-end r (omega arith) (a .m .now) (l .loop .at) s _ _ _ refl (i .loop-test .left) (l .loop .inv .1)
           (q .ensures .0 ∙ ap (λ (b : Bytes). absorb b (take k (drop (l .loop .at) (a .m .now))) 0) z),
-      encrypt-end r (omega arith) (a .m .now) (l .loop .at) (omega arith) s (length-bytes (l .loop .s)) (a .out .now) (l .loop .out) _ (encrypt r v (a .m .now)) (a .to) lc (omega arith) (l .loop .inv .3) _ (l .loop .inv .0) refl (i .loop-test .left) (l .loop .inv .2)
+      encrypt-end r (omega arith) (a .m .now) (l .loop .at) (omega arith) s (length-bytes (l .loop .s))
+          (a .out .now) (l .loop .out) _ (encrypt r v (a .m .now)) (a .to) lc (omega arith) (l .loop .inv .3) _ (l .loop .inv .0) refl (i .loop-test .left) (l .loop .inv .2)
           (q .ensures .1 ∙ ap (λ (b : Bytes). putBytes (l .loop .out) (a .to + l .loop .at) (b ⊕₈ take k (drop (l .loop .at) (a .m .now)))) z),
     )
 

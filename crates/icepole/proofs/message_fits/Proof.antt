@@ -9,15 +9,12 @@ use Rattle.icepole.specs.Sealing.{sealed}
 use Rattle.icepole.proofs.message_fits.Statement.{statement}
 use Rattle.icepole.proofs.message_fits.Tie as tie
 
--- src/lib.rt:588:16
 add-over : tie.Need-add-over
 add-over c = search needs
 
--- src/lib.rt:590:9
 returns : tie.Need-returns
 returns c = let a = c .before .before .args in sym (le-leb (a .sealed - (a .q .secret + 16)) (a .out) (omega arith))
 
--- src/lib.rt:584:1
 returns-2 : tie.Need-returns-2
 returns-2 c = search needs
 

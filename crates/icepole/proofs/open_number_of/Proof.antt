@@ -7,43 +7,33 @@ use Rattle.icepole.proofs.Numbers.{open-0, open-1, open-2, open-4, open
 use Rattle.icepole.proofs.open_number_of.Statement.{statement}
 use Rattle.icepole.proofs.open_number_of.Tie as tie
 
--- src/lib.rt:559:9
 returns : tie.Need-returns
 returns c = open-1 _ _ _ _ _ _ (λ e. omega arith)
 
--- src/lib.rt:562:9
 returns-2 : tie.Need-returns-2
 returns-2 c = open-2 _ _ _ _ _ _ (omega arith) (λ e. omega arith)
 
--- src/lib.rt:565:9
 returns-3 : tie.Need-returns-3
 returns-3 c = open-4 _ _ _ _ _ _ (omega arith) (omega arith) (omega arith)
 
--- src/lib.rt:568:9
 returns-4 : tie.Need-returns-4
 returns-4 c = open-4 _ _ _ _ _ _ (omega arith) (omega arith) (omega arith)
 
--- src/lib.rt:570:16
 add-over : tie.Need-add-over
 add-over c = search needs
 
--- src/lib.rt:571:17
 add-if5 : tie.Need-add-if5
 add-if5 c = search needs
 
--- src/lib.rt:572:9
 returns-5 : tie.Need-returns-5
 returns-5 c = open-4′ _ _ _ _ _ _ (omega arith) (omega arith) (omega arith) (omega arith)
 
--- src/lib.rt:575:9
 returns-6 : tie.Need-returns-6
 returns-6 c = open-6 _ _ _ _ _ _ (omega arith) (omega arith) (omega arith) (omega arith) (omega arith)
 
--- src/lib.rt:578:9
 returns-7 : tie.Need-returns-7
 returns-7 c = open-5 _ _ _ _ _ _ (omega arith) (omega arith) (omega arith) (omega arith) (omega arith) (not-true _ (c .if7 .taken))
 
--- src/lib.rt:546:1
 returns-8 : tie.Need-returns-8
 returns-8 c = open-0 _ _ _ _ _ _ (omega arith) (omega arith) (omega arith) (omega arith) (omega arith) (not-false _ (c .if7 .left))
 

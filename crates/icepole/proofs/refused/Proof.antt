@@ -7,7 +7,6 @@ use Rattle.bits.specs.Bits.{number}
 use Rattle.icepole.proofs.refused.Statement.{statement}
 use Rattle.icepole.proofs.refused.Tie as tie
 
--- src/lib.rt:646:1
 returns : tie.Need-returns
 returns c = let z = ne-eqb (c .args .number) 0 (λ e. omega arith) in sym (simp z)
 

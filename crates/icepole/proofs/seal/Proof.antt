@@ -19,7 +19,8 @@ seal-number-of-requires c κs = bounds c
 returns : tie.Need-returns
 returns c =
     let a = c .before .before .before .before .before .before .before .before .before .before .args in
-    seal-refused (a .v) _ (c .before .before .sizes-of .ensures) (a .key .now) (a .nonce .now) (a .secret .now) (a .first .now) (a .second .now) (a .message .now) (a .out .now) _ (c .before .seal-number-of .ensures) (c .if1 .taken)
+    seal-refused (a .v) _ (c .before .before .sizes-of .ensures) (a .key .now) (a .nonce .now) (a .secret .now) (a .first .now) (a .second .now)
+    (a .message .now) (a .out .now) _ (c .before .seal-number-of .ensures) (c .if1 .taken)
 
 seal-into-requires : tie.Need-seal-into-requires
 seal-into-requires c κs =
@@ -38,7 +39,8 @@ returns-2 : tie.Need-returns-2
 returns-2 c =
     let p = c .before .before .before .before .before .before in
     let a = p .before .before .before .before .before .before .before .before .before .args in
-    seal-done (a .v) _ (p .before .sizes-of .ensures) (a .key .now) (a .nonce .now) (a .secret .now) (a .first .now) (a .second .now) (a .message .now) (a .out .now) _ (p .seal-number-of .ensures) (c .before .before .before .before .before .if1 .left) _
+    seal-done (a .v) _ (p .before .sizes-of .ensures) (a .key .now) (a .nonce .now) (a .secret .now) (a .first .now) (a .second .now)
+    (a .message .now) (a .out .now) _ (p .seal-number-of .ensures) (c .before .before .before .before .before .if1 .left) _
     (c .before .before .before .seal-into .ensures) _ refl
 
 pub seal-spec : {M : Type 1} → statement M

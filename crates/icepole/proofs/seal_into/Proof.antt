@@ -15,20 +15,24 @@ use Rattle.icepole.proofs.seal_into.Statement.{statement}
 use Rattle.icepole.proofs.seal_into.Tie as tie
 
 add-put-bytes : tie.Need-add-put-bytes
-add-put-bytes c = omega (arith, c .before .before .before .before .before .before .before .before .before .before .before .before .before .before .before .before .before .before .pre, c .before .before .before .before .before .before .before .before .before .before .before .before .before .before .before .before .before .before .good)
+add-put-bytes c =
+    let st = c .before .before .before .before .before .before .before .before .before .before .before .before .before .before .before .before .before .before in
+    omega (arith, st .pre, st .good)
 
 put-bytes-requires : tie.Need-put-bytes-requires
 put-bytes-requires c κs =
     let l : length (c .before .before .before .to-bytes .result) ≡ 160 = c .before .before .before .to-bytes .ok .1 .0 .1 in
     let e : length (take 16 (c .before .before .before .to-bytes .result)) ≡ 16 = length-take-le 16 (c .before .before .before .to-bytes .result) (omega arith) in
-    omega (arith, c .before .before .before .before .before .before .before .before .before .before .before .before .before .before .before .before .before .before .before .before .pre, c .before .before .before .before .before .before .before .before .before .before .before .before .before .before .before .before .before .before .before .before .good)
+    let st = c .before .before .before .before .before .before .before .before .before .before .before .before .before .before .before .before .before .before .before .before in
+    omega (arith, st .pre, st .good)
 
 returns : tie.Need-returns
 returns c =
     let y = c .before .before .before .before .before .before .to-bytes in
     let w = c .before .before .before .before .before .before .before .before .before .encrypt-message in
-    let u = c .before .before .before .before .before .before .before .before .before .before .before .before .before .before .seal-ready in
-    let st = c .before .before .before .before .before .before .before .before .before .before .before .before .before .before .before .before .before .before .before .before .before .before .before in
+    let p = c .before .before .before .before .before .before .before .before .before .before .before .before .before .before in
+    let u = p .seal-ready in
+    let st = p .before .before .before .before .before .before .before .before .before in
     let a = st .args in
     let ad : Bytes = a .first .now ++ a .second .now in
     let e : 8 * (a .q .block / 8) ≡ a .q .block = whole (a .q) (st .pre .0) in

@@ -6,27 +6,21 @@ use Rattle.icepole.specs.Variants.{sizes}
 use Rattle.icepole.proofs.sizes_of.Statement.{statement}
 use Rattle.icepole.proofs.sizes_of.Tie as tie
 
--- src/lib.rt:64:32
 enum-told : tie.Need-enum-told
 enum-told c = search needs
 
--- src/lib.rt:70:33
 enum-told-2 : tie.Need-enum-told-2
 enum-told-2 c = search needs
 
--- src/lib.rt:76:33
 enum-told-3 : tie.Need-enum-told-3
 enum-told-3 c = search needs
 
--- src/lib.rt:60:1
 returns : tie.Need-returns
 returns c = sym (ap sizes (c .enum-told .given .1))
 
--- src/lib.rt:60:1
 returns-2 : tie.Need-returns-2
 returns-2 c = sym (ap sizes (c .enum-told2 .given .1))
 
--- src/lib.rt:60:1
 returns-3 : tie.Need-returns-3
 returns-3 c = sym (ap sizes (c .enum-told3 .given .1))
 

@@ -16,7 +16,10 @@ use Rattle.icepole.proofs.verify_message.Statement.{statement}
 use Rattle.icepole.proofs.verify_message.Tie as tie
 
 abbrev Inv-loop : tie.InvT-loop
-Inv-loop n c from l r s₀ at₀ s at = (at ≤ l) × (absorbMessage r (bytesOf s) (decrypt r (bytesOf s) (drop at (take l (drop from c)))) ≡ absorbMessage r (bytesOf s₀) (decrypt r (bytesOf s₀) (take l (drop from c))))
+Inv-loop n c from l r s₀ at₀ s at =
+    (at ≤ l)
+    × (absorbMessage r (bytesOf s) (decrypt r (bytesOf s) (drop at (take l (drop from c))))
+    ≡ absorbMessage r (bytesOf s₀) (decrypt r (bytesOf s₀) (take l (drop from c))))
 
 abbrev μ-loop : tie.MeasureT-loop
 μ-loop n c from l r s₀ at₀ s at = l - at

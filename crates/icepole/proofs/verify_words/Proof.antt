@@ -10,14 +10,17 @@ use Rattle.state_bytes.proofs.Lengths.{length-bytes}
 use Rattle.state_bytes.proofs.View.{shape}
 use Rattle.state_bytes.proofs.Words.{Shape, shape-set-word}
 use Rattle.icepole.specs.Sealing.{_⊕₈_, xorWith}
-use Rattle.icepole.proofs.Full.{full, word-set}
-use Rattle.icepole.proofs.Steps.{length-part, xor-with-none}
+use Rattle.icepole.proofs.Full.{word-set}
+use Rattle.icepole.proofs.Steps.{length-part, padded, xor-with-none}
 use Rattle.icepole.proofs.Xor.{length-xor}
 use Rattle.icepole.proofs.verify_words.Statement.{statement}
 use Rattle.icepole.proofs.verify_words.Tie as tie
 
 abbrev Inv-loop : tie.InvT-loop
-Inv-loop c at n t₀ w₀ t w = (w ≤ n) × (bytesOf t ≡ xorWith (bytesOf t₀) (bytesOf t₀ ⊕₈ take (8 * w) (drop at c))) × Shape t
+Inv-loop c at n t₀ w₀ t w =
+    (w ≤ n)
+    × (bytesOf t ≡ xorWith (bytesOf t₀) (bytesOf t₀ ⊕₈ take (8 * w) (drop at c)))
+    × Shape t
 
 abbrev μ-loop : tie.MeasureT-loop
 μ-loop c at n t₀ w₀ t w = n - w
@@ -49,7 +52,7 @@ returns c =
     let e : l .loop .w ≡ a .n = omega arith in
     let lp : length (take (8 * a .n) (drop (a .at) (a .c .now))) ≡ 8 * a .n = length-part (a .c .now) (a .at) (8 * a .n) (omega arith) in
     let lx : length (bytesOf (a .s) ⊕₈ take (8 * a .n) (drop (a .at) (a .c .now))) ≡ 8 * a .n = length-xor (bytesOf (a .s)) (take (8 * a .n) (drop (a .at) (a .c .now))) (omega arith) ∙ lp in
-    full (l .loop .t) (l .loop .inv .2) (a .n) (omega arith) (bytesOf (a .s)) (bytesOf (a .s) ⊕₈ take (8 * a .n) (drop (a .at) (a .c .now))) lv lx 1 (omega arith) _
+    padded (bytesOf (a .s)) (bytesOf (a .s) ⊕₈ take (8 * a .n) (drop (a .at) (a .c .now))) (bytesOf (l .loop .t)) (8 * a .n) 1 _ lx (omega arith)
     (l .loop .inv .1 ∙ ap (λ (k : ℕ). xorWith (bytesOf (a .s)) (bytesOf (a .s) ⊕₈ take (8 * k) (drop (a .at) (a .c .now)))) e) (c .finish-words .ensures)
 
 pub verify-words-spec : {M : Type 1} → statement M

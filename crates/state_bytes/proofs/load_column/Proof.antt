@@ -7,7 +7,8 @@ use Rattle.state_bytes.proofs.load_column.Tie as tie
 
 returns : tie.Need-returns
 returns c =
-    column-made _ _ _ _ _ _ _ (c .before .before .before .before .load-u64 .ensures .0) (c .before .before .before .load-u642 .ensures .0) (c .before .before .load-u643 .ensures .0) (c .before .load-u644 .ensures .0) (c .load-u645 .ensures .0)
+    column-made _ _ _ _ _ _ _ (c .before .before .before .before .load-u64 .ensures .0) (c .before .before .before .load-u642 .ensures .0)
+    (c .before .before .load-u643 .ensures .0) (c .before .load-u644 .ensures .0) (c .load-u645 .ensures .0)
 
 pub load-column-spec : {M : Type 1} → statement M
 load-column-spec =

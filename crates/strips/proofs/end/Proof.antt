@@ -20,16 +20,19 @@ put-bytes-requires : tie.Need-put-bytes-requires
 put-bytes-requires c κs =
     let l : length (c .before .before .before .to-bytes .result) ≡ 160 = c .before .before .before .to-bytes .ok .1 .0 .1 in
     let e : length (take 16 (c .before .before .before .to-bytes .result)) ≡ 16 = length-take-le 16 (c .before .before .before .to-bytes .result) (omega arith) in
-    let h = end-room _ _ _ (sym (c .before .before .before .before .before .before .before .before .end-number .ensures) ∙ c .before .before .before .before .before .before .before .if1 .left) in
+    let p = c .before .before .before .before .before .before .before in
+    let h = end-room _ _ _ (sym (p .before .end-number .ensures) ∙ p .if1 .left) in
     omega (arith, h)
 
 returns-2 : tie.Need-returns-2
 returns-2 c =
-    let a = c .before .before .before .before .before .before .before .before .before .before .before .before .before .args in
-    end-done (a .s) (a .out .now) _ (c .before .before .before .before .before .before .before .before .before .before .before .end-number .ensures) (c .before .before .before .before .before .before .before .before .before .before .if1 .left) _
+    let w = c .before .before .before .before .before .before in
+    let p = w .before .before .before .before in
+    let a = p .before .before .before .args in
+    end-done (a .s) (a .out .now) _ (p .before .end-number .ensures) (p .if1 .left) _
     (c .before .before .put-bytes .ensures .1
-    ∙ ap (λ (w : Bytes). putBytes (a .out .now) 0 (take 16 w)) (c .before .before .before .before .before .before .to-bytes .ensures ∙ c .before .before .before .before .before .before .before .finish-bytes .ensures)
-    ∙ ap (λ (n : ℕ). putBytes (a .out .now) 0 (ended (held (a .s .bytes) n))) (c .before .before .before .before .before .before .before .before .fill-of .ensures .0))
+    ∙ ap (λ (w : Bytes). putBytes (a .out .now) 0 (take 16 w)) (w .to-bytes .ensures ∙ w .before .finish-bytes .ensures)
+    ∙ ap (λ (n : ℕ). putBytes (a .out .now) 0 (ended (held (a .s .bytes) n))) (w .before .before .fill-of .ensures .0))
 
 pub end-spec : {M : Type 1} → statement M
 end-spec =

@@ -17,7 +17,12 @@ use Rattle.strips.proofs.feed_block.Statement.{statement}
 use Rattle.strips.proofs.feed_block.Tie as tie
 
 abbrev Inv-loop : tie.InvT-loop
-Inv-loop fill m at n out₀ b₀ j₀ out b j = (j ≤ n) × (held b (fill + j) ≡ fed 128 (held b₀ fill) (take j (drop at m))) × (length b ≡ 160) × (out ≡ putBytes out₀ at (fedBytes 128 (held b₀ fill) (take j (drop at m)))) × (length out ≡ length out₀)
+Inv-loop fill m at n out₀ b₀ j₀ out b j =
+    (j ≤ n)
+    × (held b (fill + j) ≡ fed 128 (held b₀ fill) (take j (drop at m)))
+    × (length b ≡ 160)
+    × (out ≡ putBytes out₀ at (fedBytes 128 (held b₀ fill) (take j (drop at m))))
+    × (length out ≡ length out₀)
 
 abbrev μ-loop : tie.MeasureT-loop
 μ-loop fill m at n out₀ b₀ j₀ out b j = n - j
@@ -33,7 +38,8 @@ loop-again c =
     let hm : a .at + l .j < length (a .m .now) = omega arith in
     let hf : a .fill + l .j < 128 = omega arith in
     let p = take (l .j) (drop (a .at) (a .m .now)) in
-    let lp : length (fedBytes 128 (held (a .v) (a .fill)) (take (l .j) (drop (a .at) (a .m .now)))) ≡ l .j = length-fed 128 (held (a .v) (a .fill)) p ∙ length-part (a .m .now) (a .at) (l .j) (omega arith) in (
+    let lp : length (fedBytes 128 (held (a .v) (a .fill)) (take (l .j) (drop (a .at) (a .m .now)))) ≡ l .j =
+    length-fed 128 (held (a .v) (a .fill)) p ∙ length-part (a .m .now) (a .at) (l .j) (omega arith) in (
       omega arith,
       byte-fed (a .m .now) (a .at) (l .j) hm (a .v) (a .fill) hf (l .b) (l .inv .1),
       simp length-set (l .inv .2),

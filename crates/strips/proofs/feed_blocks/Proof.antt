@@ -15,7 +15,11 @@ use Rattle.strips.proofs.feed_blocks.Statement.{statement}
 use Rattle.strips.proofs.feed_blocks.Tie as tie
 
 abbrev Inv-loop : tie.InvT-loop
-Inv-loop m from out₀ s₀ at₀ out s at = (at ≤ length m) × (fed 128 (held (bytesOf s) 0) (drop at m) ≡ fed 128 (held (bytesOf s₀) 0) (drop from m)) × (putBytes out at (fedBytes 128 (held (bytesOf s) 0) (drop at m)) ≡ putBytes out₀ from (fedBytes 128 (held (bytesOf s₀) 0) (drop from m))) × (length out ≡ length out₀)
+Inv-loop m from out₀ s₀ at₀ out s at =
+    (at ≤ length m)
+    × (fed 128 (held (bytesOf s) 0) (drop at m) ≡ fed 128 (held (bytesOf s₀) 0) (drop from m))
+    × (putBytes out at (fedBytes 128 (held (bytesOf s) 0) (drop at m)) ≡ putBytes out₀ from (fedBytes 128 (held (bytesOf s₀) 0) (drop from m)))
+    × (length out ≡ length out₀)
 
 abbrev μ-loop : tie.MeasureT-loop
 μ-loop m from out₀ s₀ at₀ out s at = length m - at

@@ -1,6 +1,7 @@
 -- `strips::start` meets its contract: a number that is not 0 is the answer, and number 0 tells all that `seal_ready` wants.
 -- Assumes nothing.
 use mathlib.Core.Path.{refl, sym, _∙_}
+use native.Mathlib.Omega.{arith}
 use borrow.Author.Needs.{needs}
 use Rattle.icepole.specs.declared.Variant.the-variants.{Icepole128}
 use Rattle.icepole.proofs.Bounds.{bounded-by}
@@ -12,17 +13,21 @@ use Rattle.strips.proofs.start.Tie as tie
 returns : tie.Need-returns
 returns c =
     let a = c .before .before .before .before .before .before .before .before .before .args in
-    start-refused _ (c .before .before .sizes-of .ensures) (a .key .now) (a .nonce .now) (a .secret .now) (a .first .now) (a .second .now) (a .out .now) _ (c .before .start-number .ensures) (c .if1 .taken)
+    start-refused _ (c .before .before .sizes-of .ensures) (a .key .now) (a .nonce .now) (a .secret .now) (a .first .now) (a .second .now) (a .out .now)
+    _ (c .before .start-number .ensures) (c .if1 .taken)
 
 seal-ready-requires : tie.Need-seal-ready-requires
 seal-ready-requires c κs =
-    let w = start-fits-by _ _ (c .before .before .before .sizes-of .ensures) _ _ _ _ _ (sym (c .before .before .start-number .ensures) ∙ c .before .if1 .left) in
-    (bounded-by Icepole128 _ (c .before .before .before .sizes-of .ensures), w .key, w .nonce, w .secret, w .associated, w .out)
+    let q = c .before .before .before .sizes-of in
+    let w = start-fits-by _ _ (q .ensures) _ _ _ _ _ (sym (c .before .before .start-number .ensures) ∙ c .before .if1 .left) in
+    (bounded-by Icepole128 _ (q .ensures), w .key, w .nonce, w .secret, w .associated, omega (arith, w .out))
 
 returns-2 : tie.Need-returns-2
 returns-2 c =
-    let a = c .before .before .before .before .before .before .before .before .before .before .before .before .before .before .args in
-    start-done _ (c .before .before .before .before .before .before .before .sizes-of .ensures) (a .key .now) (a .nonce .now) (a .secret .now) (a .first .now) (a .second .now) (a .out .now) _ (c .before .before .before .before .before .before .start-number .ensures) (c .before .before .before .before .before .if1 .left)
+    let p = c .before .before .before .before .before .before .before in
+    let a = p .before .before .before .before .before .before .before .args in
+    start-done _ (p .sizes-of .ensures) (a .key .now) (a .nonce .now) (a .secret .now) (a .first .now) (a .second .now) (a .out .now)
+    _ (c .before .before .before .before .before .before .start-number .ensures) (c .before .before .before .before .before .if1 .left)
     _ refl _ _ (c .to-bytes .ensures ∙ c .before .before .before .seal-ready .ensures .0) (c .before .before .before .seal-ready .ensures .1)
 
 pub start-spec : {M : Type 1} → statement M

@@ -16,17 +16,23 @@ returns c = let a = c .before .before .before .before .args in strip-refused (a 
 
 feed-requires : tie.Need-feed-requires
 feed-requires c κs =
-    let w = strip-fits _ _ _ _ (sym (c .before .before .before .before .strip-number .ensures) ∙ c .before .before .before .if1 .left) in (c .before .fill-of .ensures .1, w .out)
+    let p = c .before .before .before in
+    let w = strip-fits _ _ _ _ (sym (p .before .strip-number .ensures) ∙ p .if1 .left) in
+    (c .before .fill-of .ensures .1, w .out)
 
 add-t12 : tie.Need-add-t12
-add-t12 c = let w = strip-fits _ _ _ _ (sym (c .before .before .before .before .before .before .before .before .strip-number .ensures) ∙ c .before .before .before .before .before .before .before .if1 .left) in omega (arith, w .sum)
+add-t12 c =
+    let p = c .before .before .before .before .before .before .before in
+    let w = strip-fits _ _ _ _ (sym (p .before .strip-number .ensures) ∙ p .if1 .left) in
+    omega (arith, w .sum)
 
 returns-2 : tie.Need-returns-2
 returns-2 c =
-    let a = c .before .before .before .before .before .before .before .before .before .before .before .args in
+    let p = c .before .before .before .before .before .before .before in
+    let a = p .before .before .before .before .args in
     let q = c .before .before .before .feed .ensures in
     let f = c .before .before .before .before .before .fill-of .ensures .0 in
-    strip-done (a .s) (a .message .now) (a .out .now) _ (c .before .before .before .before .before .before .before .before .strip-number .ensures) (c .before .before .before .before .before .before .before .if1 .left) _ _
+    strip-done (a .s) (a .message .now) (a .out .now) _ (p .before .strip-number .ensures) (p .if1 .left) _ _
     (q .0 ∙ ap (λ (n : ℕ). fed 128 (held (a .s .bytes) n) (a .message .now) .state) f)
     (q .1 ∙ ap (λ (n : ℕ). putBytes (a .out .now) 0 (fedBytes 128 (held (a .s .bytes) n) (a .message .now))) f)
 
