@@ -22,7 +22,7 @@ use Rattle.icepole.proofs.Answers.{open-refused}
 use Rattle.icepole.proofs.Bounds.{bounded}
 use Rattle.icepole.proofs.Numbers.{open-fits}
 use Rattle.icepole.proofs.Opening.{length-secret-of}
-use Rattle.icepole_c.specs.Calls.{openCallAnswer, openCallInfo, openCallOutput, openCallRefusal, fitsBoth}
+use Rattle.icepole_c.specs.Calls.{OpenContract, openCallAnswer, openCallInfo, openCallOutput, openCallRefusal, fitsBoth}
 
 pub seal-refusal : (v : Variant) (k n s a m o : Bytes) (r : Sealed) → r ≡ sealAnswer v k n s a m o → r .refusal ≡ sealRefusal v k n s a m o
 unfolding sealAnswer
@@ -50,7 +50,7 @@ false-true e = let z : _≡_ {A = ℕ} 0 1 = cc in omega arith
 -- ---- the further slice is too short
 pub short-call : (v : Variant) (k n f g c o t : Bytes) (num : ℕ) → length t < 8 + sizes v .secret
     → num ≡ openNumber (sizes v) (length k) (length n) (length f + length g) (length c) false true
-    → (num ≡ openCallRefusal v k n (f ++ g) c o t) × (o ≡ openCallOutput v k n (f ++ g) c o t) × (t ≡ openCallInfo v k n (f ++ g) c o t)
+    → OpenContract v k n (f ++ g) c o t num o t
 short-call v k n f g c o t num h e =
     let b : fitsBoth v k n (f ++ g) c o t ≡ false = ap (λ (b : Bool). b && fitsOutput v c o) (lt-leb (8 + sizes v .secret) (length t) h) in
     let some : num ≡ 0 → ⊥ =
@@ -74,7 +74,7 @@ module _ (v : Variant) (k n a c o t : Bytes) (r : Opened) (e : r ≡ openAnswer 
   is-output o′ eo = eo ∙ ap (λ (b : Bool). openOutput v k n a c b o) (sym both)
 
   pub open-refused-call : (r .refusal ≡ 0 → ⊥) → (o′ : Bytes) → o′ ≡ openOutput v k n a c (fitsOutput v c o) o
-      → (r .refusal ≡ openCallRefusal v k n a c o t) × (o′ ≡ openCallOutput v k n a c o t) × (t ≡ openCallInfo v k n a c o t)
+      → OpenContract v k n a c o t (r .refusal) o′ t
   open-refused-call z o′ eo = (number-is v k n a c o t r is-answer, is-output o′ eo, untold v k n a c o t r is-answer z)
 
   module _ (z : r .refusal ≡ 0) where

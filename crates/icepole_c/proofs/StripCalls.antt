@@ -14,10 +14,12 @@ use Rattle.icepole.specs.Answers.{unless}
 use Rattle.strips.specs.declared.StripState.{StripState}
 use Rattle.strips.specs.declared.StripAnswer.{StripAnswer}
 use Rattle.strips.specs.Answers.{startAnswer, startOutput, startRefusal, stripAnswer, stripOutput, stripRefusal, endAnswer, endOutput, endRefusal}
-use Rattle.icepole_c.specs.Strips.{stripStateBytes, stripStateIn, startCallRefusal, startCallOutput, startCallState, stripCallRefusal, stripCallOutput, stripCallState, endCallRefusal, endCallOutput, endCallState}
+use Rattle.icepole_c.specs.Strips.{stripStateLength, stripStateBytes, stripStateIn, StartContract, StripContract, EndContract}
+use Rattle.icepole_c.specs.Strips.{startCallRefusal, startCallOutput, startCallState, stripCallRefusal, stripCallOutput, stripCallState}
+use Rattle.icepole_c.specs.Strips.{endCallRefusal, endCallOutput, endCallState}
 
 -- the three runs of a state's bytes touch
-pub state-put : (b b₁ b₂ b₃ v : Bytes) (n f i j : ℕ) → 169 ≤ length b → length v ≡ 160 → i ≡ length v → b₁ ≡ putBytes b 0 v
+pub state-put : (b b₁ b₂ b₃ v : Bytes) (n f i j : ℕ) → stripStateLength ≤ length b → length v ≡ 160 → i ≡ length v → b₁ ≡ putBytes b 0 v
     → j ≡ i + 8 → b₂ ≡ putBytes b₁ i (le 8 n) → b₃ ≡ putBytes b₂ j (le 1 f) → b₃ ≡ putBytes b 0 (v ++ (le 8 n ++ le 1 f))
 state-put b b₁ b₂ b₃ v n f i j hb hv ei e₁ ej e₂ e₃ =
     let l : length (v ++ le 8 n) ≡ 168 = length-append v (le 8 n) ∙ ap (λ (k : ℕ). k + 8) hv in
@@ -29,66 +31,70 @@ state-put b b₁ b₂ b₃ v n f i j hb hv ei e₁ ej e₂ e₃ =
 -- ---- strip and end alike: what the call answers on the state in st, and the output it leaves
 module _ (st o : Bytes) (ans : StripAnswer) (o₂ : Bytes) where
   abbrev number : ℕ
-  number = cond (ltb (length st) 169) 5 (ans .refusal)
+  number = cond (ltb (length st) stripStateLength) 5 (ans .refusal)
 
   abbrev Leaves : ℕ → Bytes → Bytes → Type 0
   Leaves n s b = (n ≡ number) × (s ≡ unless number st (putBytes st 0 (stripStateBytes (ans .state)))) × (b ≡ unless number o o₂)
 
-  short : length st < 169 → Leaves 5 st o
-  short h = let z = lt-ltb (length st) 169 h in (sym (simp z), sym (simp z), sym (simp z))
+  short : length st < stripStateLength → Leaves 5 st o
+  short h = let z = lt-ltb (length st) stripStateLength h in (sym (simp z), sym (simp z), sym (simp z))
 
-  module _ (h : 169 ≤ length st) (r : StripAnswer) (er : r ≡ ans) (o′ : Bytes) (eo : o′ ≡ o₂) where
+  module _ (h : stripStateLength ≤ length st) (r : StripAnswer) (er : r ≡ ans) (o′ : Bytes) (eo : o′ ≡ o₂) where
     refused : ((ans .refusal ≡ 0 → ⊥) → o₂ ≡ o) → (r .refusal ≡ 0 → ⊥) → Leaves (r .refusal) st o′
     refused stays f =
         let g : ans .refusal ≡ 0 → ⊥ = λ z. f (ap (λ (r : StripAnswer). r .refusal) er ∙ z) in
-        let z = le-ltb (length st) 169 h in
+        let z = le-ltb (length st) stripStateLength h in
         let w = ne-eqb (ans .refusal) 0 g in
         (ap (λ (r : StripAnswer). r .refusal) er ∙ sym (simp z), sym (simp (z, w)), eo ∙ stays g ∙ sym (simp (z, w)))
 
     done : r .refusal ≡ 0 → (st′ : Bytes) → st′ ≡ putBytes st 0 (stripStateBytes (r .state)) → Leaves 0 st′ o′
     done f st′ e′ =
-        let z = le-ltb (length st) 169 h in
+        let z = le-ltb (length st) stripStateLength h in
         let w : ans .refusal ≡ 0 = sym (ap (λ (r : StripAnswer). r .refusal) er) ∙ f in (
           sym (simp (z, w)),
           e′ ∙ ap (λ (r : StripAnswer). putBytes st 0 (stripStateBytes (r .state))) er ∙ sym (simp (z, w)),
           eo ∙ sym (simp (z, w)),
         )
 
-pub strip-short : (st m o : Bytes) → length st < 169 → (5 ≡ stripCallRefusal st m o) × (st ≡ stripCallState st m o) × (o ≡ stripCallOutput st m o)
+pub strip-short : (st m o : Bytes) → length st < stripStateLength → StripContract st m o 5 st o
 unfolding stripCallRefusal stripCallState stripCallOutput stripAnswer
 strip-short st m o = short st o (stripAnswer (stripStateIn st) m o) (stripOutput (stripStateIn st) m o)
 
 -- s is the state that the code read
-module _ (st m o : Bytes) (h : 169 ≤ length st) (s : StripState) (es : s ≡ stripStateIn st) (r : StripAnswer) (er : r ≡ stripAnswer s m o) (o′ : Bytes) (eo : o′ ≡ stripOutput s m o) where
-  pub strip-refused : (r .refusal ≡ 0 → ⊥) → (r .refusal ≡ stripCallRefusal st m o) × (st ≡ stripCallState st m o) × (o′ ≡ stripCallOutput st m o)
+module _ (st m o : Bytes) (h : stripStateLength ≤ length st) (s : StripState) (es : s ≡ stripStateIn st)
+    (r : StripAnswer) (er : r ≡ stripAnswer s m o) (o′ : Bytes) (eo : o′ ≡ stripOutput s m o) where
+  pub strip-refused : (r .refusal ≡ 0 → ⊥) → StripContract st m o (r .refusal) st o′
   unfolding stripCallRefusal stripCallState stripCallOutput stripAnswer stripOutput
   strip-refused =
-      refused st o (stripAnswer (stripStateIn st) m o) (stripOutput (stripStateIn st) m o) h r (er ∙ ap (λ (s : StripState). stripAnswer s m o) es) o′ (eo ∙ ap (λ (s : StripState). stripOutput s m o) es)
+      refused st o (stripAnswer (stripStateIn st) m o) (stripOutput (stripStateIn st) m o) h
+      r (er ∙ ap (λ (s : StripState). stripAnswer s m o) es) o′ (eo ∙ ap (λ (s : StripState). stripOutput s m o) es)
       (λ g. simp (ne-eqb (stripRefusal (stripStateIn st) m o) 0 g) refl)
 
-  pub strip-done : r .refusal ≡ 0 → (st′ : Bytes) → st′ ≡ putBytes st 0 (stripStateBytes (r .state))
-      → (0 ≡ stripCallRefusal st m o) × (st′ ≡ stripCallState st m o) × (o′ ≡ stripCallOutput st m o)
+  pub strip-done : r .refusal ≡ 0 → (st′ : Bytes) → st′ ≡ putBytes st 0 (stripStateBytes (r .state)) → StripContract st m o 0 st′ o′
   unfolding stripCallRefusal stripCallState stripCallOutput stripAnswer
   strip-done =
-      done st o (stripAnswer (stripStateIn st) m o) (stripOutput (stripStateIn st) m o) h r (er ∙ ap (λ (s : StripState). stripAnswer s m o) es) o′ (eo ∙ ap (λ (s : StripState). stripOutput s m o) es)
+      done st o (stripAnswer (stripStateIn st) m o) (stripOutput (stripStateIn st) m o) h
+      r (er ∙ ap (λ (s : StripState). stripAnswer s m o) es) o′ (eo ∙ ap (λ (s : StripState). stripOutput s m o) es)
 
-pub end-short : (st o : Bytes) → length st < 169 → (5 ≡ endCallRefusal st o) × (st ≡ endCallState st o) × (o ≡ endCallOutput st o)
+pub end-short : (st o : Bytes) → length st < stripStateLength → EndContract st o 5 st o
 unfolding endCallRefusal endCallState endCallOutput endAnswer
 end-short st o = short st o (endAnswer (stripStateIn st) o) (endOutput (stripStateIn st) o)
 
 -- s is the state that the code read
-module _ (st o : Bytes) (h : 169 ≤ length st) (s : StripState) (es : s ≡ stripStateIn st) (r : StripAnswer) (er : r ≡ endAnswer s o) (o′ : Bytes) (eo : o′ ≡ endOutput s o) where
-  pub end-refused : (r .refusal ≡ 0 → ⊥) → (r .refusal ≡ endCallRefusal st o) × (st ≡ endCallState st o) × (o′ ≡ endCallOutput st o)
+module _ (st o : Bytes) (h : stripStateLength ≤ length st) (s : StripState) (es : s ≡ stripStateIn st)
+    (r : StripAnswer) (er : r ≡ endAnswer s o) (o′ : Bytes) (eo : o′ ≡ endOutput s o) where
+  pub end-refused : (r .refusal ≡ 0 → ⊥) → EndContract st o (r .refusal) st o′
   unfolding endCallRefusal endCallState endCallOutput endAnswer endOutput
   end-refused =
-      refused st o (endAnswer (stripStateIn st) o) (endOutput (stripStateIn st) o) h r (er ∙ ap (λ (s : StripState). endAnswer s o) es) o′ (eo ∙ ap (λ (s : StripState). endOutput s o) es)
+      refused st o (endAnswer (stripStateIn st) o) (endOutput (stripStateIn st) o) h
+      r (er ∙ ap (λ (s : StripState). endAnswer s o) es) o′ (eo ∙ ap (λ (s : StripState). endOutput s o) es)
       (λ g. simp (ne-eqb (endRefusal (stripStateIn st) o) 0 g) refl)
 
-  pub end-done : r .refusal ≡ 0 → (st′ : Bytes) → st′ ≡ putBytes st 0 (stripStateBytes (r .state))
-      → (0 ≡ endCallRefusal st o) × (st′ ≡ endCallState st o) × (o′ ≡ endCallOutput st o)
+  pub end-done : r .refusal ≡ 0 → (st′ : Bytes) → st′ ≡ putBytes st 0 (stripStateBytes (r .state)) → EndContract st o 0 st′ o′
   unfolding endCallRefusal endCallState endCallOutput endAnswer
   end-done =
-      done st o (endAnswer (stripStateIn st) o) (endOutput (stripStateIn st) o) h r (er ∙ ap (λ (s : StripState). endAnswer s o) es) o′ (eo ∙ ap (λ (s : StripState). endOutput s o) es)
+      done st o (endAnswer (stripStateIn st) o) (endOutput (stripStateIn st) o) h
+      r (er ∙ ap (λ (s : StripState). endAnswer s o) es) o′ (eo ∙ ap (λ (s : StripState). endOutput s o) es)
 
 -- an output that stays where it is refused stays so under the same number
 pub twice : (i : ℕ) (o o′ : Bytes) → unless i o o′ ≡ unless i o (unless i o o′)
@@ -100,36 +106,36 @@ twice i o o′ = by (eqb i 0)
 
 -- ---- start
 module _ (k n s a o st : Bytes) where
-  pub start-short-refused : length st < 169 → (num : ℕ) → num ≡ startRefusal k n s a o → (num ≡ 0 → ⊥)
-      → (num ≡ startCallRefusal k n s a o st) × (o ≡ startCallOutput k n s a o st) × (st ≡ startCallState k n s a o st)
+  pub start-short-refused : length st < stripStateLength → (num : ℕ) → num ≡ startRefusal k n s a o → (num ≡ 0 → ⊥)
+      → StartContract k n s a o st num o st
   unfolding startCallRefusal startCallOutput startCallState
   start-short-refused h num e f =
       let w = ne-eqb (startRefusal k n s a o) 0 (λ z. f (e ∙ z)) in
-      (e ∙ sym (simp w), sym (simp w), sym (simp (lt-ltb (length st) 169 h)))
+      (e ∙ sym (simp w), sym (simp w), sym (simp (lt-ltb (length st) stripStateLength h)))
 
-  pub start-short : length st < 169 → (num : ℕ) → num ≡ startRefusal k n s a o → num ≡ 0
-      → (5 ≡ startCallRefusal k n s a o st) × (o ≡ startCallOutput k n s a o st) × (st ≡ startCallState k n s a o st)
+  pub start-short : length st < stripStateLength → (num : ℕ) → num ≡ startRefusal k n s a o → num ≡ 0
+      → StartContract k n s a o st 5 o st
   unfolding startCallRefusal startCallOutput startCallState
   start-short h num e f =
       let w : startRefusal k n s a o ≡ 0 = sym e ∙ f in
-      let z = lt-ltb (length st) 169 h in
+      let z = lt-ltb (length st) stripStateLength h in
       (sym (simp (w, z)), sym (simp (w, z)), sym (simp z))
 
   -- the number is that of start where the state is long enough
-  pub start-number : 169 ≤ length st → startCallRefusal k n s a o st ≡ startRefusal k n s a o
+  pub start-number : stripStateLength ≤ length st → startCallRefusal k n s a o st ≡ startRefusal k n s a o
   unfolding startCallRefusal
-  start-number h = simp (le-ltb (length st) 169 h) (by (startRefusal k n s a o))
+  start-number h = simp (le-ltb (length st) stripStateLength h) (by (startRefusal k n s a o))
     where
       by : (i : ℕ) → cond (not (eqb i 0)) i 0 ≡ i
       by zero = refl
       by (suc i) = rw (ne-eqb (suc i) 0 (λ z. omega arith)) refl
 
-  pub start-called : 169 ≤ length st → (r : StripAnswer) → r ≡ startAnswer k n s a o → (o′ : Bytes) → o′ ≡ startOutput k n s a o
+  pub start-called : stripStateLength ≤ length st → (r : StripAnswer) → r ≡ startAnswer k n s a o → (o′ : Bytes) → o′ ≡ startOutput k n s a o
       → (st′ : Bytes) → st′ ≡ putBytes st 0 (stripStateBytes (r .state))
-      → (r .refusal ≡ startCallRefusal k n s a o st) × (o′ ≡ startCallOutput k n s a o st) × (st′ ≡ startCallState k n s a o st)
+      → StartContract k n s a o st (r .refusal) o′ st′
   unfolding startCallOutput startCallState startAnswer startOutput
   start-called h r er o′ eo st′ es = (
     ap (λ (r : StripAnswer). r .refusal) er ∙ sym (start-number h),
     eo ∙ twice (startRefusal k n s a o) o _ ∙ ap (λ (i : ℕ). unless i o (startOutput k n s a o)) (sym (start-number h)),
-    es ∙ ap (λ (r : StripAnswer). putBytes st 0 (stripStateBytes (r .state))) er ∙ sym (simp (le-ltb (length st) 169 h)),
+    es ∙ ap (λ (r : StripAnswer). putBytes st 0 (stripStateBytes (r .state))) er ∙ sym (simp (le-ltb (length st) stripStateLength h)),
   )

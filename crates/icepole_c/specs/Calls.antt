@@ -1,5 +1,7 @@
--- The C opening (01, "Sealing and opening"): it puts the message's length (8 bytes) and then the secret number at the front of a further lent slice, here called info.
+-- The C calls of sealing and opening (01, "Sealing and opening"), over the variant: `SealContract` and `OpenContract` are the contracts of the three pairs.
+-- Opening puts the message's length (8 bytes) and then the secret number at the front of a further lent slice, here called info.
 -- Assumes nothing.
+use mathlib.Core.Path.{_≡_}
 use mathlib.Core.Bool.{Bool, _&&_}
 use mathlib.Core.List.{_++_}
 use Prim.Native.Nat.{ℕ, _+_}
@@ -9,12 +11,20 @@ use Rattle.bytes_le.specs.Bytes.{Bytes, putBytes, le}
 use Rattle.icepole.specs.declared.Opened.{Opened}
 use Rattle.icepole.specs.declared.Variant.{Variant}
 use Rattle.icepole.specs.Variants.{sizes}
-use Rattle.icepole.specs.Answers.{openAnswer, openOutput, fitsOutput, unless}
+use Rattle.icepole.specs.Answers.{sealRefusal, sealOutput, openAnswer, openOutput, fitsOutput, unless}
+
+-- a call that is lent these, ad being the joining of its two parts, returns r and leaves the output as out′
+abbrev pub SealContract : Variant → (key nonce secret ad m out : Bytes) → ℕ → Bytes → Type 0
+SealContract v key nonce secret ad m out r out′ = (r ≡ sealRefusal v key nonce secret ad m out) × (out′ ≡ sealOutput v key nonce secret ad m out)
+
+-- how many bytes of info are written
+abbrev pub infoLength : Variant → ℕ
+infoLength v = 8 + sizes v .secret
 
 module _ (v : Variant) (key nonce ad c out info : Bytes) where
   -- whether info and out are both long enough; else 5
   abbrev pub fitsBoth : Bool
-  fitsBoth = leb (8 + sizes v .secret) (length info) && fitsOutput v c out
+  fitsBoth = leb (infoLength v) (length info) && fitsOutput v c out
 
   -- what opening answers: the C call returns its number and puts the rest into info
   abbrev pub openCallAnswer : Opened
@@ -28,3 +38,7 @@ module _ (v : Variant) (key nonce ad c out info : Bytes) where
 
   unfoldable pub openCallInfo : Bytes
   openCallInfo = unless openCallRefusal info (putBytes info 0 (le 8 (openCallAnswer .length) ++ take (sizes v .secret) (openCallAnswer .secret)))
+
+  -- the call returns r and leaves the output as out′ and the further slice as info′
+  abbrev pub OpenContract : ℕ → Bytes → Bytes → Type 0
+  OpenContract r out′ info′ = (r ≡ openCallRefusal) × (out′ ≡ openCallOutput) × (info′ ≡ openCallInfo)

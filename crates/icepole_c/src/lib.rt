@@ -1,15 +1,16 @@
-// The calls of the camera's main firmware, which is in C: sealing and opening, one pair for each variant, and strips of 128. Each returns the refusal number, 0 when done. include/icepole.h declares them.
+// The calls of the camera's main firmware, which is in C: sealing and opening, one pair for each variant, and strips of 128. Each returns the refusal number,
+// 0 when done. include/icepole.h declares them.
 use icepole::OUTPUT_TOO_SHORT;
 use icepole::Variant;
+use state_bytes::STATE_BYTES;
 use strips::StripState;
 ghost use mathlib.Core.Path.{_≡_};
 ghost use mathlib.Core.List.{_++_};
 ghost use Prim.Native.Nat.{_≤_};
 ghost use lib.ListN.{length};
 ghost use Rattle.bytes_le.specs.Bytes.{putBytes};
-ghost use Rattle.icepole.specs.Answers.{sealRefusal, sealOutput};
-ghost use Rattle.icepole_c.specs.Calls.{openCallRefusal, openCallOutput, openCallInfo};
-ghost use Rattle.icepole_c.specs.Strips.{flag, stripStateBytes, stripStateIn, startCallRefusal, startCallOutput, startCallState, stripCallRefusal, stripCallOutput, stripCallState, endCallRefusal, endCallOutput, endCallState};
+ghost use Rattle.icepole_c.specs.Calls.{SealContract, OpenContract};
+ghost use Rattle.icepole_c.specs.Strips.{stripStateLength, flag, stripStateBytes, stripStateIn, StartContract, StripContract, EndContract};
 
 fn seal_call(
     v: Variant,
@@ -21,8 +22,8 @@ fn seal_call(
     message: &[u8],
     out: &mut [u8],
 ) -> u32
-    ensures { λ r. ⌜ (r ≡ sealRefusal v (now (key .entry)) (now (nonce .entry)) (now (secret .entry)) (now (first .entry) ++ now (second .entry)) (now (message .entry)) (now (out .entry)))
-        × (now (out .exit) ≡ sealOutput v (now (key .entry)) (now (nonce .entry)) (now (secret .entry)) (now (first .entry) ++ now (second .entry)) (now (message .entry)) (now (out .entry))) ⌝ }
+    ensures { λ r. ⌜ SealContract v (now (key .entry)) (now (nonce .entry)) (now (secret .entry))
+        (now (first .entry) ++ now (second .entry)) (now (message .entry)) (now (out .entry)) r (now (out .exit)) ⌝ }
 {
     icepole::seal(v, key, nonce, secret, first, second, message, out).refusal
 }
@@ -37,9 +38,8 @@ fn open_call(
     out: &mut [u8],
     info: &mut [u8],
 ) -> u32
-    ensures { λ r. ⌜ (r ≡ openCallRefusal v (now (key .entry)) (now (nonce .entry)) (now (first .entry) ++ now (second .entry)) (now (sealed .entry)) (now (out .entry)) (now (info .entry)))
-        × (now (out .exit) ≡ openCallOutput v (now (key .entry)) (now (nonce .entry)) (now (first .entry) ++ now (second .entry)) (now (sealed .entry)) (now (out .entry)) (now (info .entry)))
-        × (now (info .exit) ≡ openCallInfo v (now (key .entry)) (now (nonce .entry)) (now (first .entry) ++ now (second .entry)) (now (sealed .entry)) (now (out .entry)) (now (info .entry))) ⌝ }
+    ensures { λ r. ⌜ OpenContract v (now (key .entry)) (now (nonce .entry))
+        (now (first .entry) ++ now (second .entry)) (now (sealed .entry)) (now (out .entry)) (now (info .entry)) r (now (out .exit)) (now (info .exit)) ⌝ }
 {
     let q = icepole::sizes_of(v);
     let n = q.secret;
@@ -76,8 +76,8 @@ pub extern "C" fn icepole128_seal(
     message: &[u8],
     out: &mut [u8],
 ) -> u32
-    ensures { λ r. ⌜ (r ≡ sealRefusal Variant.Icepole128 (now (key .entry)) (now (nonce .entry)) (now (secret .entry)) (now (first .entry) ++ now (second .entry)) (now (message .entry)) (now (out .entry)))
-        × (now (out .exit) ≡ sealOutput Variant.Icepole128 (now (key .entry)) (now (nonce .entry)) (now (secret .entry)) (now (first .entry) ++ now (second .entry)) (now (message .entry)) (now (out .entry))) ⌝ }
+    ensures { λ r. ⌜ SealContract Variant.Icepole128 (now (key .entry)) (now (nonce .entry)) (now (secret .entry))
+        (now (first .entry) ++ now (second .entry)) (now (message .entry)) (now (out .entry)) r (now (out .exit)) ⌝ }
 {
     seal_call(
         Variant::Icepole128,
@@ -101,9 +101,8 @@ pub extern "C" fn icepole128_open(
     out: &mut [u8],
     info: &mut [u8],
 ) -> u32
-    ensures { λ r. ⌜ (r ≡ openCallRefusal Variant.Icepole128 (now (key .entry)) (now (nonce .entry)) (now (first .entry) ++ now (second .entry)) (now (sealed .entry)) (now (out .entry)) (now (info .entry)))
-        × (now (out .exit) ≡ openCallOutput Variant.Icepole128 (now (key .entry)) (now (nonce .entry)) (now (first .entry) ++ now (second .entry)) (now (sealed .entry)) (now (out .entry)) (now (info .entry)))
-        × (now (info .exit) ≡ openCallInfo Variant.Icepole128 (now (key .entry)) (now (nonce .entry)) (now (first .entry) ++ now (second .entry)) (now (sealed .entry)) (now (out .entry)) (now (info .entry))) ⌝ }
+    ensures { λ r. ⌜ OpenContract Variant.Icepole128 (now (key .entry)) (now (nonce .entry))
+        (now (first .entry) ++ now (second .entry)) (now (sealed .entry)) (now (out .entry)) (now (info .entry)) r (now (out .exit)) (now (info .exit)) ⌝ }
 {
     open_call(
         Variant::Icepole128,
@@ -127,8 +126,8 @@ pub extern "C" fn icepole128a_seal(
     message: &[u8],
     out: &mut [u8],
 ) -> u32
-    ensures { λ r. ⌜ (r ≡ sealRefusal Variant.Icepole128a (now (key .entry)) (now (nonce .entry)) (now (secret .entry)) (now (first .entry) ++ now (second .entry)) (now (message .entry)) (now (out .entry)))
-        × (now (out .exit) ≡ sealOutput Variant.Icepole128a (now (key .entry)) (now (nonce .entry)) (now (secret .entry)) (now (first .entry) ++ now (second .entry)) (now (message .entry)) (now (out .entry))) ⌝ }
+    ensures { λ r. ⌜ SealContract Variant.Icepole128a (now (key .entry)) (now (nonce .entry)) (now (secret .entry))
+        (now (first .entry) ++ now (second .entry)) (now (message .entry)) (now (out .entry)) r (now (out .exit)) ⌝ }
 {
     seal_call(
         Variant::Icepole128a,
@@ -152,9 +151,8 @@ pub extern "C" fn icepole128a_open(
     out: &mut [u8],
     info: &mut [u8],
 ) -> u32
-    ensures { λ r. ⌜ (r ≡ openCallRefusal Variant.Icepole128a (now (key .entry)) (now (nonce .entry)) (now (first .entry) ++ now (second .entry)) (now (sealed .entry)) (now (out .entry)) (now (info .entry)))
-        × (now (out .exit) ≡ openCallOutput Variant.Icepole128a (now (key .entry)) (now (nonce .entry)) (now (first .entry) ++ now (second .entry)) (now (sealed .entry)) (now (out .entry)) (now (info .entry)))
-        × (now (info .exit) ≡ openCallInfo Variant.Icepole128a (now (key .entry)) (now (nonce .entry)) (now (first .entry) ++ now (second .entry)) (now (sealed .entry)) (now (out .entry)) (now (info .entry))) ⌝ }
+    ensures { λ r. ⌜ OpenContract Variant.Icepole128a (now (key .entry)) (now (nonce .entry))
+        (now (first .entry) ++ now (second .entry)) (now (sealed .entry)) (now (out .entry)) (now (info .entry)) r (now (out .exit)) (now (info .exit)) ⌝ }
 {
     open_call(
         Variant::Icepole128a,
@@ -178,8 +176,8 @@ pub extern "C" fn icepole256a_seal(
     message: &[u8],
     out: &mut [u8],
 ) -> u32
-    ensures { λ r. ⌜ (r ≡ sealRefusal Variant.Icepole256a (now (key .entry)) (now (nonce .entry)) (now (secret .entry)) (now (first .entry) ++ now (second .entry)) (now (message .entry)) (now (out .entry)))
-        × (now (out .exit) ≡ sealOutput Variant.Icepole256a (now (key .entry)) (now (nonce .entry)) (now (secret .entry)) (now (first .entry) ++ now (second .entry)) (now (message .entry)) (now (out .entry))) ⌝ }
+    ensures { λ r. ⌜ SealContract Variant.Icepole256a (now (key .entry)) (now (nonce .entry)) (now (secret .entry))
+        (now (first .entry) ++ now (second .entry)) (now (message .entry)) (now (out .entry)) r (now (out .exit)) ⌝ }
 {
     seal_call(
         Variant::Icepole256a,
@@ -203,9 +201,8 @@ pub extern "C" fn icepole256a_open(
     out: &mut [u8],
     info: &mut [u8],
 ) -> u32
-    ensures { λ r. ⌜ (r ≡ openCallRefusal Variant.Icepole256a (now (key .entry)) (now (nonce .entry)) (now (first .entry) ++ now (second .entry)) (now (sealed .entry)) (now (out .entry)) (now (info .entry)))
-        × (now (out .exit) ≡ openCallOutput Variant.Icepole256a (now (key .entry)) (now (nonce .entry)) (now (first .entry) ++ now (second .entry)) (now (sealed .entry)) (now (out .entry)) (now (info .entry)))
-        × (now (info .exit) ≡ openCallInfo Variant.Icepole256a (now (key .entry)) (now (nonce .entry)) (now (first .entry) ++ now (second .entry)) (now (sealed .entry)) (now (out .entry)) (now (info .entry))) ⌝ }
+    ensures { λ r. ⌜ OpenContract Variant.Icepole256a (now (key .entry)) (now (nonce .entry))
+        (now (first .entry) ++ now (second .entry)) (now (sealed .entry)) (now (out .entry)) (now (info .entry)) r (now (out .exit)) (now (info .exit)) ⌝ }
 {
     open_call(
         Variant::Icepole256a,
@@ -220,21 +217,25 @@ pub extern "C" fn icepole256a_open(
 }
 
 // ---- strips of 128
-// Bytes of a strip state that is lent.
-const STRIP_STATE_LENGTH: usize = 169;
+// A strip state that is lent: the state's bytes, the count (8 bytes), and whether it is finished (1 byte).
+const COUNT_AT: usize = STATE_BYTES;
+
+const FINISHED_AT: usize = COUNT_AT + 8;
+
+const STRIP_STATE_LENGTH: usize = FINISHED_AT + 1;
 
 // The strip state that stands at the front of b.
 fn strip_state_in(b: &[u8]) -> StripState
-    requires { ⌜ 169 ≤ length (now b) ⌝ }
+    requires { ⌜ stripStateLength ≤ length (now b) ⌝ }
     ensures { λ r. ⌜ r ≡ stripStateIn (now (b .entry)) ⌝ }
 {
-    let mut bytes = [0u8; 160];
-    bytes_le::put_bytes(&mut bytes, 0, &b[0..160]);
-    let count = bytes_le::load_le(b, 160, 8);
+    let mut bytes = [0u8; STATE_BYTES];
+    bytes_le::put_bytes(&mut bytes, 0, &b[0..STATE_BYTES]);
+    let count = bytes_le::load_le(b, COUNT_AT, 8);
     StripState {
         bytes,
         count: count as usize,
-        finished: b[168] != 0,
+        finished: b[FINISHED_AT] != 0,
     }
 }
 
@@ -248,7 +249,7 @@ fn flag_of(b: bool) -> u64
 }
 
 fn put_strip_state(s: StripState, b: &mut [u8])
-    requires { ⌜ 169 ≤ length (now b) ⌝ }
+    requires { ⌜ stripStateLength ≤ length (now b) ⌝ }
     ensures { λ _. ⌜ now (b .exit) ≡ putBytes (now (b .entry)) 0 (stripStateBytes s) ⌝ }
 {
     let bytes = s.bytes;
@@ -267,9 +268,8 @@ pub extern "C" fn icepole128_start(
     out: &mut [u8],
     state: &mut [u8],
 ) -> u32
-    ensures { λ r. ⌜ (r ≡ startCallRefusal (now (key .entry)) (now (nonce .entry)) (now (secret .entry)) (now (first .entry) ++ now (second .entry)) (now (out .entry)) (now (state .entry)))
-        × (now (out .exit) ≡ startCallOutput (now (key .entry)) (now (nonce .entry)) (now (secret .entry)) (now (first .entry) ++ now (second .entry)) (now (out .entry)) (now (state .entry)))
-        × (now (state .exit) ≡ startCallState (now (key .entry)) (now (nonce .entry)) (now (secret .entry)) (now (first .entry) ++ now (second .entry)) (now (out .entry)) (now (state .entry))) ⌝ }
+    ensures { λ r. ⌜ StartContract (now (key .entry)) (now (nonce .entry)) (now (secret .entry))
+        (now (first .entry) ++ now (second .entry)) (now (out .entry)) (now (state .entry)) r (now (out .exit)) (now (state .exit)) ⌝ }
 {
     if state.len() < STRIP_STATE_LENGTH {
         let number = strips::start_number(
@@ -293,9 +293,7 @@ pub extern "C" fn icepole128_start(
 
 #[no_mangle]
 pub extern "C" fn icepole128_strip(state: &mut [u8], message: &[u8], out: &mut [u8]) -> u32
-    ensures { λ r. ⌜ (r ≡ stripCallRefusal (now (state .entry)) (now (message .entry)) (now (out .entry)))
-        × (now (state .exit) ≡ stripCallState (now (state .entry)) (now (message .entry)) (now (out .entry)))
-        × (now (out .exit) ≡ stripCallOutput (now (state .entry)) (now (message .entry)) (now (out .entry))) ⌝ }
+    ensures { λ r. ⌜ StripContract (now (state .entry)) (now (message .entry)) (now (out .entry)) r (now (state .exit)) (now (out .exit)) ⌝ }
 {
     if state.len() < STRIP_STATE_LENGTH {
         return OUTPUT_TOO_SHORT;
@@ -311,9 +309,7 @@ pub extern "C" fn icepole128_strip(state: &mut [u8], message: &[u8], out: &mut [
 
 #[no_mangle]
 pub extern "C" fn icepole128_end(state: &mut [u8], out: &mut [u8]) -> u32
-    ensures { λ r. ⌜ (r ≡ endCallRefusal (now (state .entry)) (now (out .entry)))
-        × (now (state .exit) ≡ endCallState (now (state .entry)) (now (out .entry)))
-        × (now (out .exit) ≡ endCallOutput (now (state .entry)) (now (out .entry))) ⌝ }
+    ensures { λ r. ⌜ EndContract (now (state .entry)) (now (out .entry)) r (now (state .exit)) (now (out .exit)) ⌝ }
 {
     if state.len() < STRIP_STATE_LENGTH {
         return OUTPUT_TOO_SHORT;

@@ -10,13 +10,21 @@ returns c = let a = c .before .before .before .args in end-short (a .state .now)
 
 returns-2 : tie.Need-returns-2
 returns-2 c =
-    let a = c .before .before .before .before .before .before .before .before .before .before .before .args in
-    end-refused (a .state .now) (a .out .now) (c .before .before .before .before .before .before .before .before .if1 .left) _ (c .before .before .before .before .before .before .strip-state-in .ensures) _ (c .before .before .before .before .end .ensures .0) _ (c .before .before .before .before .end .ensures .1) (c .if2 .taken)
+    let e = c .before .before .before .before in
+    let p = e .before .before in
+    let i = p .before .before in
+    let a = i .before .before .before .args in
+    end-refused (a .state .now) (a .out .now) (i .if1 .left) _ (p .strip-state-in .ensures)
+    _ (e .end .ensures .0) _ (e .end .ensures .1) (c .if2 .taken)
 
 returns-3 : tie.Need-returns-3
 returns-3 c =
-    let a = c .before .before .before .before .before .before .before .before .before .before .before .before .before .before .before .before .args in
-    end-done (a .state .now) (a .out .now) (c .before .before .before .before .before .before .before .before .before .before .before .before .before .if1 .left) _ (c .before .before .before .before .before .before .before .before .before .before .before .strip-state-in .ensures) _ (c .before .before .before .before .before .before .before .before .before .end .ensures .0) _ (c .before .before .before .before .before .before .before .before .before .end .ensures .1) (c .before .before .before .before .before .if2 .left) _ (c .before .before .put-strip-state .ensures)
+    let e = c .before .before .before .before .before .before .before .before .before in
+    let p = e .before .before in
+    let i = p .before .before in
+    let a = i .before .before .before .args in
+    end-done (a .state .now) (a .out .now) (i .if1 .left) _ (p .strip-state-in .ensures)
+    _ (e .end .ensures .0) _ (e .end .ensures .1) (c .before .before .before .before .before .if2 .left) _ (c .before .before .put-strip-state .ensures)
 
 pub icepole128-end-spec : {M : Type 1} → statement M
 icepole128-end-spec =

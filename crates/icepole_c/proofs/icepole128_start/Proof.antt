@@ -10,20 +10,24 @@ use Rattle.icepole_c.proofs.icepole128_start.Tie as tie
 returns : tie.Need-returns
 returns c =
     let a = c .before .before .before .before .before .before .before .before .before .before .args in
-    start-short-refused (a .key .now) (a .nonce .now) (a .secret .now) (a .first .now ++ a .second .now) (a .out .now) (a .state .now) (c .before .before .if1 .taken) _
+    start-short-refused (a .key .now) (a .nonce .now) (a .secret .now) (a .first .now ++ a .second .now) (a .out .now) (a .state .now)
+    (c .before .before .if1 .taken) _
     (start-number-of (a .key .now) (a .nonce .now) (a .secret .now) (a .first .now) (a .second .now) (a .out .now) _ (c .before .start-number .ensures)) (c .if2 .taken)
 
 returns-2 : tie.Need-returns-2
 returns-2 c =
     let a = c .before .before .before .before .before .before .before .before .before .before .args in
-    start-short (a .key .now) (a .nonce .now) (a .secret .now) (a .first .now ++ a .second .now) (a .out .now) (a .state .now) (c .before .before .if1 .taken) _
+    start-short (a .key .now) (a .nonce .now) (a .secret .now) (a .first .now ++ a .second .now) (a .out .now) (a .state .now)
+    (c .before .before .if1 .taken) _
     (start-number-of (a .key .now) (a .nonce .now) (a .secret .now) (a .first .now) (a .second .now) (a .out .now) _ (c .before .start-number .ensures)) (c .if2 .left)
 
 returns-3 : tie.Need-returns-3
 returns-3 c =
-    let a = c .before .before .before .before .before .before .before .before .before .before .before .before .before .before .before .before .before .args in
-    start-called (a .key .now) (a .nonce .now) (a .secret .now) (a .first .now ++ a .second .now) (a .out .now) (a .state .now) (c .before .before .before .before .before .before .before .before .before .if1 .left) _
-    (c .before .before .before .before .before .before .before .start .ensures .0) _ (c .before .before .before .before .before .before .before .start .ensures .1) _ (c .before .before .put-strip-state .ensures)
+    let e = c .before .before .before .before .before .before .before in
+    let i = e .before .before in
+    let a = i .before .before .before .before .before .before .before .before .args in
+    start-called (a .key .now) (a .nonce .now) (a .secret .now) (a .first .now ++ a .second .now) (a .out .now) (a .state .now) (i .if1 .left)
+    _ (e .start .ensures .0) _ (e .start .ensures .1) _ (c .before .before .put-strip-state .ensures)
 
 pub icepole128-start-spec : {M : Type 1} → statement M
 icepole128-start-spec =

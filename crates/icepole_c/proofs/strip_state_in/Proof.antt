@@ -15,9 +15,11 @@ use Rattle.icepole_c.proofs.strip_state_in.Tie as tie
 
 returns : tie.Need-returns
 returns c =
-    let b = c .before .before .before .before .before .before .before .args .b .now in
-    let l : length (take 160 (c .before .before .before .before .before .before .before .args .b .now)) ≡ 160 = length-take-le 160 (c .before .before .before .before .before .before .before .args .b .now) (omega arith) in
-    ap₂ (λ (v : Bytes) (n : ℕ). record { bytes = v; count = n; finished = not (eqb (getD b 168 0) 0) }) (c .before .before .before .put-bytes .ensures .1 ∙ put-whole _ _ (omega (arith, l))) (c .before .load-le .ensures .0)
+    let a = c .before .before .before .before .before .before .before .args in
+    let b = a .b .now in
+    let l : length (take 160 (a .b .now)) ≡ 160 = length-take-le 160 (a .b .now) (omega arith) in
+    ap₂ (λ (v : Bytes) (n : ℕ). record { bytes = v; count = n; finished = not (eqb (getD b 168 0) 0) })
+    (c .before .before .before .put-bytes .ensures .1 ∙ put-whole _ _ (omega (arith, l))) (c .before .load-le .ensures .0)
 
 pub strip-state-in-spec : {M : Type 1} → statement M
 strip-state-in-spec =
