@@ -12,7 +12,7 @@ use Rattle.bytes_le.specs.Bytes.{Bytes, le, putBytes}
 use Rattle.bytes_le.proofs.Laws.{take-put}
 use Rattle.icepole.specs.Answers.{fitsOutput, openAnswer, openLength, openNumber, openOutput, openRefusal, openedAnswer, sealAnswer, sealOutput, sealRefusal, tagAgrees, unless}
 use Rattle.icepole.specs.Bounds.{Bounded}
-use Rattle.icepole.specs.Sealing.{expectedTag, messageOf, same, sealed, secretOf, tag, tagPart}
+use Rattle.icepole.specs.Sealing.{expectedTag, messageOf, same, sealed, secretOf, tagPart}
 use Rattle.icepole.specs.Variants.{sizes}
 use Rattle.icepole.specs.declared.Variant.{Variant}
 use Rattle.icepole.specs.declared.Opened.{Opened}

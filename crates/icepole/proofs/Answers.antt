@@ -6,16 +6,18 @@ use mathlib.Core.List.{[], _++_}
 use Prim.Native.Nat.{ℕ, zero, suc, _+_, _-_}
 use native.Mathlib.Omega.{arith}
 use borrow.Author.Tests.{ne-eqb}
+use lib.Dec.{leb}
 use lib.ListN.{length, replicate, length-append}
 use Rattle.bytes_le.specs.Bytes.{Bytes, putBytes}
 use Rattle.bytes_le.proofs.Loads.{fits}
-use Rattle.icepole.specs.Answers.{openAnswer, openNumber, openOutput, openRefusal, openedAnswer, refusal, sealAnswer, sealNumber, sealOutput, sealRefusal, sealedAnswer, tagAgrees}
+use Rattle.icepole.specs.Answers.{fitsOutput, openAnswer, openLength, openNumber, openOutput, openRefusal, openedAnswer, tagAgrees}
+use Rattle.icepole.specs.Answers.{sealAnswer, sealNumber, sealOutput, sealRefusal, sealedAnswer}
 use Rattle.icepole.specs.Sealing.{messageOf, sealed, secretOf}
 use Rattle.icepole.specs.Variants.{sizes}
 use Rattle.icepole.specs.declared.Opened.{Opened}
 use Rattle.icepole.specs.declared.Sizes.{Sizes}
 use Rattle.icepole.specs.declared.Variant.{Variant}
-use Rattle.icepole.proofs.Numbers.{open-decides, open-stands}
+use Rattle.icepole.proofs.Numbers.{OpenFits, open-decides, open-fits, open-stands}
 
 -- ---- sealing
 module _ (v : Variant) (q : Sizes) (eq : q ≡ sizes v) (k n s f g m o : Bytes) (num : ℕ)
@@ -64,32 +66,60 @@ module _ (v : Variant) (q : Sizes) (eq : q ≡ sizes v) (k n f g c : Bytes) (fit
       ∙ open-decides q (length k) (length n) (length f + length g) (length c) fits agrees (sym e ∙ h)
       ∙ ap (λ (t : Bool). cond (not t) 7 0) et
 
-  refused-by : (num₀ : ℕ) → openRefusal v k n (f ++ g) c fits ≡ suc num₀ → (r : Opened) → r ≡ openedAnswer (suc num₀) 0 []
-      → (r ≡ openAnswer v k n (f ++ g) c fits) × ((o : Bytes) → o ≡ openOutput v k n (f ++ g) c fits o)
-  unfolding openAnswer openOutput
-  refused-by num₀ z r er = let w = ne-eqb (suc num₀) 0 (λ i. omega arith) in (er ∙ sym (simp (z, w)), λ o. sym (simp (z, w)))
+  refused-by : (num₀ : ℕ) → openRefusal v k n (f ++ g) c fits ≡ suc num₀ → (r : Opened) → r ≡ openedAnswer (suc num₀) 0 [] → r ≡ openAnswer v k n (f ++ g) c fits
+  unfolding openAnswer
+  refused-by num₀ z r er = let w = ne-eqb (suc num₀) 0 (λ i. omega arith) in er ∙ sym (simp (z, w))
 
-  pub open-refused : (num ≡ 0 → ⊥) → (r : Opened) → r ≡ openedAnswer num 0 []
-      → (r ≡ openAnswer v k n (f ++ g) c fits) × ((o : Bytes) → o ≡ openOutput v k n (f ++ g) c fits o)
+  pub open-refused : (num ≡ 0 → ⊥) → (r : Opened) → r ≡ openedAnswer num 0 [] → r ≡ openAnswer v k n (f ++ g) c fits
   open-refused h r er = by num refl
     where
-      by : (i : ℕ) → num ≡ i → (r ≡ openAnswer v k n (f ++ g) c fits) × ((o : Bytes) → o ≡ openOutput v k n (f ++ g) c fits o)
+      by : (i : ℕ) → num ≡ i → r ≡ openAnswer v k n (f ++ g) c fits
       by zero z = absurd (h z)
       by (suc num₀) z = refused-by num₀ (stays num₀ z) r (er ∙ ap (λ (i : ℕ). openedAnswer i 0 []) z)
 
-  pub open-differs : num ≡ 0 → agrees ≡ false → (r : Opened) → r ≡ openedAnswer 7 0 []
-      → (r ≡ openAnswer v k n (f ++ g) c fits) × ((o : Bytes) → o ≡ openOutput v k n (f ++ g) c fits o)
+  pub open-differs : num ≡ 0 → agrees ≡ false → (r : Opened) → r ≡ openedAnswer 7 0 [] → r ≡ openAnswer v k n (f ++ g) c fits
   open-differs h et = refused-by 6 (by-tag h false et)
 
   pub open-done : num ≡ 0 → agrees ≡ true → (l : ℕ) → l ≡ length c - (q .secret + 16)
       → (s : Bytes) → s ≡ putBytes (replicate 16 0) 0 (secretOf q k n c)
-      → (record { refusal = 0; mark = 0; length = l; secret = s } ≡ openAnswer v k n (f ++ g) c fits)
-      × ((o o′ : Bytes) → o′ ≡ putBytes o 0 (messageOf q k n (f ++ g) c) → o′ ≡ openOutput v k n (f ++ g) c fits o)
-  unfolding openAnswer openOutput
+      → record { refusal = 0; mark = 0; length = l; secret = s } ≡ openAnswer v k n (f ++ g) c fits
+  unfolding openAnswer
   open-done h et l el s es =
-      let z : openRefusal v k n (f ++ g) c fits ≡ 0 = by-tag h true et in (
-        ap₂ (λ (l : ℕ) (s : Bytes). record { refusal = 0; mark = 0; length = l; secret = s }) (el ∙ ap (λ (q : Sizes). length c - (q .secret + 16)) eq)
-            (es ∙ ap (λ (q : Sizes). putBytes (replicate 16 0) 0 (secretOf q k n c)) eq)
-            ∙ sym (simp z),
-        λ o o′ eo. eo ∙ ap (λ (q : Sizes). putBytes o 0 (messageOf q k n (f ++ g) c)) eq ∙ sym (simp z),
-      )
+      let z : openRefusal v k n (f ++ g) c fits ≡ 0 = by-tag h true et in
+      ap₂ (λ (l : ℕ) (s : Bytes). record { refusal = 0; mark = 0; length = l; secret = s }) (el ∙ ap (λ (q : Sizes). length c - (q .secret + 16)) eq)
+      (es ∙ ap (λ (q : Sizes). putBytes (replicate 16 0) 0 (secretOf q k n c)) eq)
+      ∙ sym (simp z)
+
+-- an answer with a number that is not 0
+pub not-opened : (num : ℕ) → (num ≡ 0 → ⊥) → (r : Opened) → r ≡ openedAnswer num 0 [] → r .refusal ≡ 0 → ⊥
+not-opened num h r er z = h (sym (ap (λ (r : Opened). r .refusal) er) ∙ z)
+
+-- ---- the output, and what number 0 tells, from the answer r
+module _ (v : Variant) (k n a c : Bytes) (fits : Bool) (r : Opened) (er : r ≡ openAnswer v k n a c fits) where
+  is-open-refusal : openRefusal v k n a c fits ≡ r .refusal
+  unfolding openAnswer
+  is-open-refusal = sym (ap (λ (r : Opened). r .refusal) er)
+
+  pub open-stays : (r .refusal ≡ 0 → ⊥) → (o : Bytes) → o ≡ openOutput v k n a c fits o
+  unfolding openOutput
+  open-stays h o = sym (simp (ne-eqb (openRefusal v k n a c fits) 0 (λ z. h (sym is-open-refusal ∙ z))))
+
+  module _ (z : r .refusal ≡ 0) where
+    pub open-tells : OpenFits (sizes v) (length k) (length n) (length a) (length c) fits (tagAgrees (sizes v) k n a c)
+    unfolding openRefusal
+    open-tells = open-fits (sizes v) (length k) (length n) (length a) (length c) fits (tagAgrees (sizes v) k n a c) (is-open-refusal ∙ z)
+
+    -- the fields of the answer
+    pub open-given : r ≡ openedAnswer 0 (openLength v c) (secretOf (sizes v) k n c)
+    unfolding openAnswer
+    open-given = er ∙ ap (λ (i : ℕ). openedAnswer i (openLength v c) (secretOf (sizes v) k n c)) (is-open-refusal ∙ z)
+
+    pub open-written : (o o′ : Bytes) → o′ ≡ putBytes o 0 (messageOf (sizes v) k n a c) → o′ ≡ openOutput v k n a c fits o
+    unfolding openOutput
+    open-written o o′ eo = let w : openRefusal v k n a c fits ≡ 0 = is-open-refusal ∙ z in eo ∙ sym (simp w)
+
+-- the answer of `open_message`, where b is what the code found for whether the message fits
+pub answer-by : (v : Variant) (q : Sizes) → q ≡ sizes v → (k n a c o : Bytes) (b : Bool) → b ≡ leb (length c - (q .secret + 16)) (length o)
+    → (r : Opened) → r ≡ openAnswer v k n a c b → r ≡ openAnswer v k n a c (fitsOutput v c o)
+answer-by v q eq k n a c o b eb r er =
+    er ∙ ap (openAnswer v k n a c) (eb ∙ ap (λ (q : Sizes). leb (length c - (q .secret + 16)) (length o)) eq)

@@ -6,7 +6,7 @@ use native.Mathlib.Nat.{le-refl, div-eq-of-lt, add-mul-div-right, one-mul}
 use native.Mathlib.Omega.{arith}
 use mathlib.Core.Logic.{⊎-elim}
 use mathlib.Core.List.{_++_}
-use lib.ListN.{length, take, drop, length-append, length-drop, take-append-drop}
+use lib.ListN.{length, take, drop, length-append, length-drop}
 use lib.Seq.{length-take-le, take-at, drop-at}
 use Rattle.bytes_le.specs.Bytes.{Bytes}
 use Rattle.bits.proofs.Cases.{le-or-lt}

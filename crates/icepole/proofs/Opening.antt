@@ -8,7 +8,7 @@ use native.Mathlib.Omega.{arith}
 use lib.Dec.{eqb, leb}
 use lib.ListN.{length, take, drop, length-append, take-append-drop, length-drop}
 use lib.Seq.{length-take-le, take-at, drop-at, drop-drop}
-use borrow.Author.Tests.{eq-eqb, eqb-true, le-leb, leb-true}
+use borrow.Author.Tests.{eq-eqb, eqb-true, leb-true}
 use mathlib.Core.Option.{Option, some, none}
 use Rattle.bytes_le.specs.Bytes.{Bytes}
 use Rattle.state_bytes.proofs.Lengths.{length-permuted}
@@ -132,13 +132,6 @@ module _ (q : Sizes) (hb : 0 < q .block) (hr : q .block < 160) (hs : q .secret <
 
     pub tag-of-sealed : same (expectedTag q k n a (sealed q k n s a m)) (tagPart (sealed q k n s a m)) ≡ true
     tag-of-sealed = simp (tag-in, tag-part, same-self c₂)
-
-    -- opening what sealing gives
-    pub open-seal : opened q k n a (sealed q k n s a m) ≡ some (s, m)
-    unfolding opened
-    open-seal =
-        let h : q .secret + 16 ≤ length (sealed q k n s a m) = rw length-sealed (omega arith) in
-        simp (le-leb (q .secret + 16) (length (sealed q k n s a m)) h, tag-in, tag-part, same-self c₂, secret-of-sealed, message-of-sealed)
 
   -- the lengths of what a sealed message holds
   module _ (k n a c : Bytes) (h : q .secret + 16 ≤ length c) where

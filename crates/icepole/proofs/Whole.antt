@@ -1,4 +1,4 @@
--- Whole messages: what the calls of `seal_ready`, `seal_into`, `open_ready` and `tag_agrees` give, joined.
+-- Whole messages: what the calls of `seal_ready`, `seal_into`, `open_ready`, `tag_agrees` and `open_message` give, joined.
 -- Assumes nothing.
 use mathlib.Core.Path.{_≡_, ap, ap₂, _∙_}
 use Prim.Native.Nat.{ℕ, _+_, _-_, _*_, _/_, _%_, _≤_}
@@ -6,15 +6,16 @@ use mathlib.Core.Bool.{Bool}
 use native.Mathlib.Omega.{arith}
 use mathlib.Core.List.{_++_, append-assoc}
 use lib.ListN.{length, take, drop, length-append, length-drop}
-use lib.Seq.{length-take-le, take-all, take-length}
-use mathlib.Core.Option.{some}
+use lib.Seq.{take-all, take-length}
 use Rattle.bytes_le.specs.Bytes.{Bytes, putBytes}
 use Rattle.bytes_le.proofs.Laws.{put-put}
 use Rattle.icepole.specs.Answers.{tagAgrees}
 use Rattle.icepole.specs.Bounds.{Bounded}
 use Rattle.icepole.specs.Sealing.{_⊕₈_, absorb, absorbAssociated, absorbMessage, decrypt, encrypt, expectedTag, keyed, messageOf, messagePart, ready}
 use Rattle.icepole.specs.Sealing.{readyOf, same, sealed, secretOf, tag, tagPart}
+use Rattle.icepole.specs.Variants.{sizes}
 use Rattle.icepole.specs.declared.Sizes.{Sizes}
+use Rattle.icepole.specs.declared.Variant.{Variant}
 use Rattle.icepole.proofs.Blocks.{length-encrypt}
 use Rattle.icepole.proofs.Opening.{length-keyed, length-ready}
 use Rattle.icepole.proofs.Xor.{length-xor}
@@ -25,9 +26,6 @@ whole q h = let e : q .block % 8 ≡ 0 = h .whole in omega arith
 
 pub encrypt-by : (o o₂ u m : Bytes) (i r r′ : ℕ) → r ≡ r′ → o₂ ≡ putBytes o i (encrypt r u m) → o₂ ≡ putBytes o i (encrypt r′ u m)
 encrypt-by o o₂ u m i r r′ e h = h ∙ ap (λ (r : ℕ). putBytes o i (encrypt r u m)) e
-
-pub decrypt-by : (o o₂ u m : Bytes) (i r r′ : ℕ) → r ≡ r′ → o₂ ≡ putBytes o i (decrypt r u m) → o₂ ≡ putBytes o i (decrypt r′ u m)
-decrypt-by o o₂ u m i r r′ e h = h ∙ ap (λ (r : ℕ). putBytes o i (decrypt r u m)) e
 
 -- what stands before the message: the sealed secret number, and the state after the associated data
 pub sealed-ready : (q : Sizes) (k n s a o o₁ v x u : Bytes)
@@ -74,10 +72,16 @@ module _ (q : Sizes) (k n a c v x u : Bytes) (ev : v ≡ keyed k n) where
   unfolding readyOf ready
   ready-runs ex eu = eu ∙ ap (λ (x : Bytes). absorbAssociated (q .block) x a) (ex ∙ ap₂ (λ (v s : Bytes). absorb v s 0) ev secret-runs)
 
-module _ (q : Sizes) (k n a c u : Bytes) (l : ℕ) (h : q .secret + 16 ≤ length c) (el : l ≡ length c - (q .secret + 16)) (eu : u ≡ readyOf q k n a c) where
-  pub message-runs : decrypt (q .block) u (take l (drop (q .secret) c)) ≡ messageOf q k n a c
-  unfolding messageOf
-  message-runs = ap₂ (λ (u : Bytes) (l : ℕ). decrypt (q .block) u (take l (drop (q .secret) c))) eu el
+-- the message, in the terms of the code: u is the state after the associated data, and o′ the output after it
+pub message-by : (v : Variant) (q : Sizes) → q ≡ sizes v → Bounded q → (k n a c u o o′ : Bytes) (l : ℕ)
+    → u ≡ readyOf (sizes v) k n a c → l ≡ length c - (sizes v .secret + 16)
+    → o′ ≡ putBytes o 0 (decrypt (8 * (q .block / 8)) u (take l (drop (q .secret) c)))
+    → o′ ≡ putBytes o 0 (messageOf (sizes v) k n a c)
+unfolding messageOf
+message-by v q eq hq k n a c u o o′ l eu el e =
+    e ∙ ap (λ (r : ℕ). putBytes o 0 (decrypt r u (take l (drop (q .secret) c)))) (whole q hq)
+    ∙ ap (λ (q : Sizes). putBytes o 0 (decrypt (q .block) u (take l (drop (q .secret) c)))) eq
+    ∙ ap₂ (λ (u : Bytes) (l : ℕ). putBytes o 0 (decrypt (sizes v .block) u (take l (drop (sizes v .secret) c)))) eu el
 
 -- the tag test, in the terms of the code: w is the state after the message, b whether its tag is the one at the end of c
 pub tag-at : (q : Sizes) → Bounded q → (c u w : Bytes) (b : Bool) (l : ℕ) → q .secret + 16 ≤ length c → l ≡ length c - (q .secret + 16)
@@ -90,8 +94,9 @@ tag-at q hq c u w b l h el ew eb =
     ∙ ap₂ same (ap (take 16) (ew ∙ ap₂ (λ (r l : ℕ). absorbMessage r u (decrypt r u (take l (drop (q .secret) c)))) (whole q hq) el))
     (ap (λ (i : ℕ). take 16 (drop i c)) e ∙ take-all 16 (drop (length c - 16) c) (rw length-drop (omega arith)))
 
-pub agrees-runs : (q : Sizes) (k n a c u : Bytes) (b : Bool) → u ≡ readyOf q k n a c
-    → b ≡ same (tag (absorbMessage (q .block) u (decrypt (q .block) u (messagePart q c)))) (tagPart c) → b ≡ tagAgrees q k n a c
+pub agrees-by : (v : Variant) (q : Sizes) → q ≡ sizes v → (k n a c u : Bytes) (b : Bool) → u ≡ readyOf q k n a c
+    → b ≡ same (tag (absorbMessage (q .block) u (decrypt (q .block) u (messagePart q c)))) (tagPart c) → b ≡ tagAgrees (sizes v) k n a c
 unfolding tagAgrees expectedTag messageOf
-agrees-runs q k n a c u b eu eb =
+agrees-by v q eq k n a c u b eu eb =
     eb ∙ ap (λ (u : Bytes). same (tag (absorbMessage (q .block) u (decrypt (q .block) u (messagePart q c)))) (tagPart c)) eu
+    ∙ ap (λ (q : Sizes). tagAgrees q k n a c) eq

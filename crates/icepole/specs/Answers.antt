@@ -1,6 +1,6 @@
 -- What sealing, verifying and opening answer and leave in the lent buffer, for good and bad calls (01, "Turned down, by example").
 -- Assumes nothing.
-use mathlib.Core.Bool.{Bool, true, cond, not, _||_}
+use mathlib.Core.Bool.{Bool, cond, not, _||_}
 use mathlib.Core.List.{List, [], _∷_}
 use Prim.Native.Nat.{ℕ, _+_, _-_}
 use lib.Dec.{eqb, leb, ltb}

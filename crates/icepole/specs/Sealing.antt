@@ -1,7 +1,7 @@
 -- Sealing and opening (003, 2.6 to 2.11; 01, "Sealing and opening"), over the sizes of a variant. The state is its bytes.
 -- Assumes nothing.
 use mathlib.Core.Bool.{Bool, true, false, cond}
-use mathlib.Core.List.{List, [], _∷_, _++_}
+use mathlib.Core.List.{[], _∷_, _++_}
 use Prim.Native.Nat.{ℕ, zero, suc, _+_, _-_, _/_}
 use lib.Bits.{bitXor}
 use lib.Dec.{eqb}

@@ -8,9 +8,10 @@ ghost use lib.Dec.{leb};
 ghost use lib.ListN.{length, take, drop, getD};
 ghost use Rattle.bits.specs.Bits.{wordRange};
 ghost use Rattle.bytes_le.specs.Bytes.{putBytes};
-ghost use Rattle.state_bytes.specs.StateBytes.{stateLength, bytesOf};
+ghost use Rattle.state_bytes.specs.StateBytes.{stateWords, stateLength, bytesOf};
 ghost use Rattle.icepole.specs.Variants.{sizes, tagLength, maxKey, maxNonce, maxSecret};
-ghost use Rattle.icepole.specs.Sealing.{_⊕₈_, xorWith, same, keyed, absorb, finish, absorbAssociated, absorbMessage, encrypt, decrypt, ready, sealed, secretOf, readyOf, tag, messagePart, tagPart};
+ghost use Rattle.icepole.specs.Sealing.{_⊕₈_, xorWith, same, keyed, absorb, finish, absorbAssociated, absorbMessage, encrypt, decrypt};
+ghost use Rattle.icepole.specs.Sealing.{ready, sealed, secretOf, readyOf, tag, messagePart, tagPart};
 ghost use Rattle.icepole.specs.Answers.{maxLength, sealNumber, openNumber, sealAnswer, sealOutput, openedAnswer, openAnswer, openOutput, fitsOutput};
 ghost use Rattle.icepole.specs.Bounds.{Bounded};
 
@@ -121,7 +122,7 @@ pub fn finish_bytes(v: [u8; STATE_BYTES], n: usize, frame: u8) -> State
 // ---- full blocks, word by word
 // The same for a block of n words.
 fn finish_words(s: State, n: usize, frame: u64) -> State
-    requires { ⌜ (n < 20) × (frame < 2) ⌝ }
+    requires { ⌜ (n < stateWords) × (frame < 2) ⌝ }
     ensures { λ r. ⌜ bytesOf r ≡ finish (bytesOf s) (8 * n) frame ⌝ }
 {
     let mut t = s;
@@ -133,7 +134,7 @@ fn finish_words(s: State, n: usize, frame: u64) -> State
 
 // The state after a block of n words.
 fn absorb_words(s: State, d: &[u8], at: usize, n: usize, frame: u64) -> State
-    requires { ⌜ (n < 20) × (at + 8 * n ≤ length (now d)) × (frame < 2) ⌝ }
+    requires { ⌜ (n < stateWords) × (at + 8 * n ≤ length (now d)) × (frame < 2) ⌝ }
     ensures { λ r. ⌜ bytesOf r ≡ absorb (bytesOf s) (take (8 * n) (drop at (now (d .entry)))) frame ⌝ }
 {
     let mut t = s;
@@ -150,7 +151,7 @@ fn absorb_words(s: State, d: &[u8], at: usize, n: usize, frame: u64) -> State
 
 // The state after a block of n words of a message, whose ciphertext is put into out from index to on.
 pub fn encrypt_words(s: State, m: &[u8], at: usize, n: usize, out: &mut [u8], to: usize) -> State
-    requires { ⌜ (n < 20) × (at + 8 * n ≤ length (now m)) × (to + 8 * n ≤ length (now out)) ⌝ }
+    requires { ⌜ (n < stateWords) × (at + 8 * n ≤ length (now m)) × (to + 8 * n ≤ length (now out)) ⌝ }
     ensures { λ r. ⌜ (bytesOf r ≡ absorb (bytesOf s) (take (8 * n) (drop at (now (m .entry)))) 1)
         × (now (out .exit) ≡ putBytes (now (out .entry)) to (bytesOf s ⊕₈ take (8 * n) (drop at (now (m .entry))))) ⌝ }
 {
@@ -170,7 +171,7 @@ pub fn encrypt_words(s: State, m: &[u8], at: usize, n: usize, out: &mut [u8], to
 
 // The state after the message of a block of n words of ciphertext. State xor message is the ciphertext, so its words take the place of the state's.
 fn verify_words(s: State, c: &[u8], at: usize, n: usize) -> State
-    requires { ⌜ (n < 20) × (at + 8 * n ≤ length (now c)) ⌝ }
+    requires { ⌜ (n < stateWords) × (at + 8 * n ≤ length (now c)) ⌝ }
     ensures { λ r. ⌜ bytesOf r ≡ absorb (bytesOf s) (bytesOf s ⊕₈ take (8 * n) (drop at (now (c .entry)))) 1 ⌝ }
 {
     let mut t = s;
@@ -187,7 +188,7 @@ fn verify_words(s: State, c: &[u8], at: usize, n: usize) -> State
 
 // The state after a block of n words of ciphertext, whose message is put into out from index to on.
 fn decrypt_words(s: State, c: &[u8], at: usize, n: usize, out: &mut [u8], to: usize) -> State
-    requires { ⌜ (n < 20) × (at + 8 * n ≤ length (now c)) × (to + 8 * n ≤ length (now out)) ⌝ }
+    requires { ⌜ (n < stateWords) × (at + 8 * n ≤ length (now c)) × (to + 8 * n ≤ length (now out)) ⌝ }
     ensures { λ r. ⌜ (bytesOf r ≡ absorb (bytesOf s) (bytesOf s ⊕₈ take (8 * n) (drop at (now (c .entry)))) 1)
         × (now (out .exit) ≡ putBytes (now (out .entry)) to (bytesOf s ⊕₈ take (8 * n) (drop at (now (c .entry))))) ⌝ }
 {
@@ -207,7 +208,7 @@ fn decrypt_words(s: State, c: &[u8], at: usize, n: usize, out: &mut [u8], to: us
 
 // ---- the same, with the count of words known to the compiler where it is that of a variant
 fn encrypt_full(s: State, m: &[u8], at: usize, n: usize, out: &mut [u8], to: usize) -> State
-    requires { ⌜ (n < 20) × (at + 8 * n ≤ length (now m)) × (to + 8 * n ≤ length (now out)) ⌝ }
+    requires { ⌜ (n < stateWords) × (at + 8 * n ≤ length (now m)) × (to + 8 * n ≤ length (now out)) ⌝ }
     ensures { λ r. ⌜ (bytesOf r ≡ absorb (bytesOf s) (take (8 * n) (drop at (now (m .entry)))) 1)
         × (now (out .exit) ≡ putBytes (now (out .entry)) to (bytesOf s ⊕₈ take (8 * n) (drop at (now (m .entry))))) ⌝ }
 {
@@ -221,7 +222,7 @@ fn encrypt_full(s: State, m: &[u8], at: usize, n: usize, out: &mut [u8], to: usi
 }
 
 fn verify_full(s: State, c: &[u8], at: usize, n: usize) -> State
-    requires { ⌜ (n < 20) × (at + 8 * n ≤ length (now c)) ⌝ }
+    requires { ⌜ (n < stateWords) × (at + 8 * n ≤ length (now c)) ⌝ }
     ensures { λ r. ⌜ bytesOf r ≡ absorb (bytesOf s) (bytesOf s ⊕₈ take (8 * n) (drop at (now (c .entry)))) 1 ⌝ }
 {
     if n == BLOCK_WORDS {
@@ -234,7 +235,7 @@ fn verify_full(s: State, c: &[u8], at: usize, n: usize) -> State
 }
 
 fn decrypt_full(s: State, c: &[u8], at: usize, n: usize, out: &mut [u8], to: usize) -> State
-    requires { ⌜ (n < 20) × (at + 8 * n ≤ length (now c)) × (to + 8 * n ≤ length (now out)) ⌝ }
+    requires { ⌜ (n < stateWords) × (at + 8 * n ≤ length (now c)) × (to + 8 * n ≤ length (now out)) ⌝ }
     ensures { λ r. ⌜ (bytesOf r ≡ absorb (bytesOf s) (bytesOf s ⊕₈ take (8 * n) (drop at (now (c .entry)))) 1)
         × (now (out .exit) ≡ putBytes (now (out .entry)) to (bytesOf s ⊕₈ take (8 * n) (drop at (now (c .entry))))) ⌝ }
 {
@@ -396,7 +397,7 @@ fn keyed_state(key: &[u8], nonce: &[u8]) -> State
 
 // The state after a block of n words of two parts.
 fn absorb_either(s: State, first: &[u8], second: &[u8], at: usize, n: usize) -> State
-    requires { ⌜ (n < 20) × (at + 8 * n ≤ length (now first) + length (now second)) × (at + 8 * n < wordRange) ⌝ }
+    requires { ⌜ (n < stateWords) × (at + 8 * n ≤ length (now first) + length (now second)) × (at + 8 * n < wordRange) ⌝ }
     ensures { λ r. ⌜ bytesOf r ≡ absorb (bytesOf s) (take (8 * n) (drop at (now (first .entry) ++ now (second .entry)))) 0 ⌝ }
 {
     if at + 8 * n <= first.len() {
@@ -410,7 +411,7 @@ fn absorb_either(s: State, first: &[u8], second: &[u8], at: usize, n: usize) -> 
 
 // The state after associated data in two parts. A block has n words.
 fn absorb_associated(v: State, n: usize, first: &[u8], second: &[u8]) -> State
-    requires { ⌜ (0 < n) × (n < 20) × (length (now first) + length (now second) ≤ maxLength) ⌝ }
+    requires { ⌜ (0 < n) × (n < stateWords) × (length (now first) + length (now second) ≤ maxLength) ⌝ }
     ensures { λ w. ⌜ bytesOf w ≡ absorbAssociated (8 * n) (bytesOf v) (now (first .entry) ++ now (second .entry)) ⌝ }
 {
     let r = 8 * n;
@@ -427,7 +428,7 @@ fn absorb_associated(v: State, n: usize, first: &[u8], second: &[u8]) -> State
 
 // The state after a message, whose ciphertext is put into out from index to on. A block has n words.
 fn encrypt_message(v: State, n: usize, m: &[u8], out: &mut [u8], to: usize) -> State
-    requires { ⌜ (0 < n) × (n < 20) × (to + length (now m) ≤ length (now out)) ⌝ }
+    requires { ⌜ (0 < n) × (n < stateWords) × (to + length (now m) ≤ length (now out)) ⌝ }
     ensures { λ w. ⌜ (bytesOf w ≡ absorbMessage (8 * n) (bytesOf v) (now (m .entry)))
         × (now (out .exit) ≡ putBytes (now (out .entry)) to (encrypt (8 * n) (bytesOf v) (now (m .entry)))) ⌝ }
 {
@@ -445,7 +446,7 @@ fn encrypt_message(v: State, n: usize, m: &[u8], out: &mut [u8], to: usize) -> S
 
 // The state after the message of l bytes of ciphertext from index from on. A block has n words.
 fn verify_message(v: State, n: usize, c: &[u8], from: usize, l: usize) -> State
-    requires { ⌜ (0 < n) × (n < 20) × (from + l ≤ length (now c)) ⌝ }
+    requires { ⌜ (0 < n) × (n < stateWords) × (from + l ≤ length (now c)) ⌝ }
     ensures { λ w. ⌜ bytesOf w ≡ absorbMessage (8 * n) (bytesOf v) (decrypt (8 * n) (bytesOf v) (take l (drop from (now (c .entry))))) ⌝ }
 {
     let r = 8 * n;
@@ -461,7 +462,7 @@ fn verify_message(v: State, n: usize, c: &[u8], from: usize, l: usize) -> State
 
 // The message of l bytes of ciphertext from index from on is put into out, at its front. A block has n words.
 fn decrypt_message(v: State, n: usize, c: &[u8], from: usize, l: usize, out: &mut [u8])
-    requires { ⌜ (0 < n) × (n < 20) × (from + l ≤ length (now c)) × (l ≤ length (now out)) ⌝ }
+    requires { ⌜ (0 < n) × (n < stateWords) × (from + l ≤ length (now c)) × (l ≤ length (now out)) ⌝ }
     ensures { λ _. ⌜ now (out .exit) ≡ putBytes (now (out .entry)) 0 (decrypt (8 * n) (bytesOf v) (take l (drop from (now (c .entry))))) ⌝ }
 {
     let r = 8 * n;
@@ -487,7 +488,8 @@ pub fn seal_ready(
 ) -> State
     requires { ⌜ Bounded q × (length (now key) ≡ q .key) × (length (now nonce) ≡ q .nonce) × (length (now secret) ≡ q .secret)
         × (length (now first) + length (now second) ≤ maxLength) × (q .secret ≤ length (now out)) ⌝ }
-    ensures { λ r. ⌜ (bytesOf r ≡ ready (q .block) (keyed (now (key .entry)) (now (nonce .entry))) (now (secret .entry)) (now (first .entry) ++ now (second .entry)))
+    ensures { λ r. ⌜ (bytesOf r ≡ ready (q .block) (keyed (now (key .entry)) (now (nonce .entry))) (now (secret .entry))
+        (now (first .entry) ++ now (second .entry)))
         × (now (out .exit) ≡ putBytes (now (out .entry)) 0 (keyed (now (key .entry)) (now (nonce .entry)) ⊕₈ now (secret .entry))) ⌝ }
 {
     let v = state_bytes::to_bytes(keyed_state(key, nonce));
@@ -654,8 +656,10 @@ pub fn seal(
     message: &[u8],
     out: &mut [u8],
 ) -> Sealed
-    ensures { λ r. ⌜ (r ≡ sealAnswer v (now (key .entry)) (now (nonce .entry)) (now (secret .entry)) (now (first .entry) ++ now (second .entry)) (now (message .entry)) (now (out .entry)))
-        × (now (out .exit) ≡ sealOutput v (now (key .entry)) (now (nonce .entry)) (now (secret .entry)) (now (first .entry) ++ now (second .entry)) (now (message .entry)) (now (out .entry))) ⌝ }
+    ensures { λ r. ⌜ (r ≡ sealAnswer v (now (key .entry)) (now (nonce .entry)) (now (secret .entry))
+        (now (first .entry) ++ now (second .entry)) (now (message .entry)) (now (out .entry)))
+        × (now (out .exit) ≡ sealOutput v (now (key .entry)) (now (nonce .entry)) (now (secret .entry))
+        (now (first .entry) ++ now (second .entry)) (now (message .entry)) (now (out .entry))) ⌝ }
 {
     let q = sizes_of(v);
     let number = seal_number_of(
@@ -686,7 +690,8 @@ pub fn seal(
 // Whether the tag agrees, of a sealed message after whose associated data the state is u.
 fn tag_agrees(q: Sizes, u: State, c: &[u8]) -> bool
     requires { ⌜ Bounded q × (q .secret + tagLength ≤ length (now c)) ⌝ }
-    ensures { λ r. ⌜ r ≡ same (tag (absorbMessage (q .block) (bytesOf u) (decrypt (q .block) (bytesOf u) (messagePart q (now (c .entry)))))) (tagPart (now (c .entry))) ⌝ }
+    ensures { λ r. ⌜ r ≡ same (tag (absorbMessage (q .block) (bytesOf u) (decrypt (q .block) (bytesOf u) (messagePart q (now (c .entry))))))
+        (tagPart (now (c .entry))) ⌝ }
 {
     let from = q.secret;
     let n = c.len() - (from + TAG_BYTES);
@@ -722,58 +727,23 @@ pub fn open_number(
     open_number_of(sizes_of(v), key, nonce, first, second, sealed, fits)
 }
 
-// Opening without a message: whether the tag agrees, the message's length and the secret number. It writes nothing.
-pub fn verify(
+// All of opening but the message: the answer, where fits says whether what is lent is long enough for it. Where its number is 0, the state after the associated
+// data is left in state.
+fn open_front(
     v: Variant,
     key: &[u8],
     nonce: &[u8],
     first: &[u8],
     second: &[u8],
     sealed: &[u8],
+    fits: bool,
+    state: &mut State,
 ) -> Opened
-    ensures { λ r. ⌜ r ≡ openAnswer v (now (key .entry)) (now (nonce .entry)) (now (first .entry) ++ now (second .entry)) (now (sealed .entry)) true ⌝ }
+    ensures { λ r. ⌜ (r ≡ openAnswer v (now (key .entry)) (now (nonce .entry)) (now (first .entry) ++ now (second .entry)) (now (sealed .entry)) fits)
+        × (r .refusal ≡ 0 → bytesOf (now (state .exit))
+        ≡ readyOf (sizes v) (now (key .entry)) (now (nonce .entry)) (now (first .entry) ++ now (second .entry)) (now (sealed .entry))) ⌝ }
 {
     let q = sizes_of(v);
-    let number = open_number_of(
-        q,
-        key.len(),
-        nonce.len(),
-        first.len(),
-        second.len(),
-        sealed.len(),
-        true,
-    );
-    if number != 0 {
-        return refused(number);
-    }
-    let mut secret = [0u8; SECRET_BYTES];
-    let u = open_ready(q, key, nonce, first, second, sealed, &mut secret);
-    if tag_agrees(q, u, sealed) {
-        return Opened {
-            refusal: 0,
-            mark: 0,
-            length: sealed.len() - (q.secret + TAG_BYTES),
-            secret,
-        };
-    }
-    refused(TAG_DIFFERS)
-}
-
-// Opening. The message is written only after the tag was found to agree.
-pub fn open_message(
-    v: Variant,
-    key: &[u8],
-    nonce: &[u8],
-    first: &[u8],
-    second: &[u8],
-    sealed: &[u8],
-    out: &mut [u8],
-) -> Opened
-    ensures { λ r. ⌜ (r ≡ openAnswer v (now (key .entry)) (now (nonce .entry)) (now (first .entry) ++ now (second .entry)) (now (sealed .entry)) (fitsOutput v (now (sealed .entry)) (now (out .entry))))
-        × (now (out .exit) ≡ openOutput v (now (key .entry)) (now (nonce .entry)) (now (first .entry) ++ now (second .entry)) (now (sealed .entry)) (fitsOutput v (now (sealed .entry)) (now (out .entry))) (now (out .entry))) ⌝ }
-{
-    let q = sizes_of(v);
-    let fits = message_fits(q, sealed.len(), out.len());
     let number = open_number_of(
         q,
         key.len(),
@@ -788,17 +758,55 @@ pub fn open_message(
     }
     let mut secret = [0u8; SECRET_BYTES];
     let u = open_ready(q, key, nonce, first, second, sealed, &mut secret);
-    let agrees = tag_agrees(q, u, sealed);
-    if agrees {
-        let from = q.secret;
-        let n = sealed.len() - (from + TAG_BYTES);
-        decrypt_message(u, q.block / 8, sealed, from, n, out);
+    if tag_agrees(q, u, sealed) {
+        *state = u;
         return Opened {
             refusal: 0,
             mark: 0,
-            length: n,
+            length: sealed.len() - (q.secret + TAG_BYTES),
             secret,
         };
     }
     refused(TAG_DIFFERS)
+}
+
+// Opening without a message: whether the tag agrees, the message's length and the secret number. It writes nothing.
+pub fn verify(
+    v: Variant,
+    key: &[u8],
+    nonce: &[u8],
+    first: &[u8],
+    second: &[u8],
+    sealed: &[u8],
+) -> Opened
+    ensures { λ r. ⌜ r ≡ openAnswer v (now (key .entry)) (now (nonce .entry)) (now (first .entry) ++ now (second .entry)) (now (sealed .entry)) true ⌝ }
+{
+    let mut state = [[0u64; 5]; 4];
+    open_front(v, key, nonce, first, second, sealed, true, &mut state)
+}
+
+// Opening. The message is written only after the tag was found to agree.
+pub fn open_message(
+    v: Variant,
+    key: &[u8],
+    nonce: &[u8],
+    first: &[u8],
+    second: &[u8],
+    sealed: &[u8],
+    out: &mut [u8],
+) -> Opened
+    ensures { λ r. ⌜ (r ≡ openAnswer v (now (key .entry)) (now (nonce .entry)) (now (first .entry) ++ now (second .entry)) (now (sealed .entry))
+        (fitsOutput v (now (sealed .entry)) (now (out .entry))))
+        × (now (out .exit) ≡ openOutput v (now (key .entry)) (now (nonce .entry)) (now (first .entry) ++ now (second .entry)) (now (sealed .entry))
+        (fitsOutput v (now (sealed .entry)) (now (out .entry))) (now (out .entry))) ⌝ }
+{
+    let q = sizes_of(v);
+    let fits = message_fits(q, sealed.len(), out.len());
+    let mut state = [[0u64; 5]; 4];
+    let r = open_front(v, key, nonce, first, second, sealed, fits, &mut state);
+    if r.refusal != 0 {
+        return r;
+    }
+    decrypt_message(state, q.block / 8, sealed, q.secret, r.length, out);
+    r
 }

@@ -10,15 +10,15 @@ use borrow.Author.Tests.{ne-eqb, le-leb, lt-leb}
 use lib.ListN.{length, take, replicate}
 use lib.Seq.{length-take-le}
 use Rattle.bytes_le.specs.Bytes.{Bytes, le, putBytes}
-use Rattle.icepole.specs.Answers.{fitsOutput, openAnswer, openLength, openNumber, openOutput, openRefusal, openedAnswer, sealAnswer, sealRefusal, tagAgrees, unless}
-use Rattle.icepole.specs.Sealing.{sealed, secretOf}
+use Rattle.icepole.specs.Answers.{fitsOutput, openAnswer, openNumber, openOutput, openedAnswer, sealAnswer, sealRefusal, unless}
+use Rattle.icepole.specs.Sealing.{secretOf}
 use Rattle.icepole.specs.Variants.{sizes}
 use Rattle.icepole.specs.declared.Opened.{Opened}
 use Rattle.icepole.specs.declared.Sealed.{Sealed}
 use Rattle.icepole.specs.declared.Sizes.{Sizes}
 use Rattle.icepole.specs.declared.Variant.{Variant}
 use Rattle.bytes_le.proofs.Laws.{length-put, put-put}
-use Rattle.icepole.proofs.Answers.{open-refused}
+use Rattle.icepole.proofs.Answers.{open-given, open-refused, open-stays, open-tells}
 use Rattle.icepole.proofs.Bounds.{bounded}
 use Rattle.icepole.proofs.Numbers.{open-fits}
 use Rattle.icepole.proofs.Opening.{length-secret-of}
@@ -56,9 +56,9 @@ short-call v k n f g c o t num h e =
     let some : num ≡ 0 → ⊥ =
     λ z. false-true (open-fits (sizes v) (length k) (length n) (length f + length g) (length c) false true (sym e ∙ z) .room) in
     let x = open-refused v (sizes v) refl k n f g c false num e some (openedAnswer num 0 []) refl in
-    let a : openedAnswer num 0 [] ≡ openCallAnswer v k n (f ++ g) c o t = x .0 ∙ ap (openAnswer v k n (f ++ g) c) (sym b) in (
+    let a : openedAnswer num 0 [] ≡ openCallAnswer v k n (f ++ g) c o t = x ∙ ap (openAnswer v k n (f ++ g) c) (sym b) in (
       number-is v k n (f ++ g) c o t (openedAnswer num 0 []) a,
-      x .1 o ∙ ap (λ (b : Bool). openOutput v k n (f ++ g) c b o) (sym b),
+      open-stays v k n (f ++ g) c false (openedAnswer num 0 []) x some o ∙ ap (λ (b : Bool). openOutput v k n (f ++ g) c b o) (sym b),
       untold v k n (f ++ g) c o t (openedAnswer num 0 []) a some,
     )
 
@@ -78,27 +78,13 @@ module _ (v : Variant) (k n a c o t : Bytes) (r : Opened) (e : r ≡ openAnswer 
   open-refused-call z o′ eo = (number-is v k n a c o t r is-answer, is-output o′ eo, untold v k n a c o t r is-answer z)
 
   module _ (z : r .refusal ≡ 0) where
-    number-0 : openRefusal v k n a c (fitsOutput v c o) ≡ 0
-    unfolding openAnswer
-    number-0 = sym (ap (λ (r : Opened). r .refusal) e) ∙ z
-
-    sealed-fits : sizes v .secret + 16 ≤ length c
-    unfolding openRefusal
-    sealed-fits =
-        open-fits (sizes v) (length k) (length n) (length a) (length c) (fitsOutput v c o) (tagAgrees (sizes v) k n a c) number-0 .sealed
-
-    length-secret : length (secretOf (sizes v) k n c) ≡ sizes v .secret
-    length-secret =
-        let h = bounded v in
-        length-secret-of (sizes v) (h .some) (h .block) (omega (arith, h .secret)) k n a c sealed-fits
-
     pub length-got : length (r .secret) ≡ 16
-    unfolding openAnswer
     length-got =
-        let l : length (secretOf (sizes v) k n c) ≡ sizes v .secret = length-secret in
-        ap (λ (r : Opened). length (r .secret)) e
-        ∙ ap (λ (i : ℕ). length (openedAnswer i (openLength v c) (secretOf (sizes v) k n c) .secret)) number-0
-        ∙ length-put (replicate 16 0) 0 (secretOf (sizes v) k n c) (omega (arith, bounded v .secret))
+        let h = bounded v in
+        let l : length (secretOf (sizes v) k n c) ≡ sizes v .secret =
+        length-secret-of (sizes v) (h .some) (h .block) (omega (arith, h .secret)) k n a c (open-tells v k n a c (fitsOutput v c o) r e z .sealed) in
+        ap (λ (r : Opened). length (r .secret)) (open-given v k n a c (fitsOutput v c o) r e z)
+        ∙ length-put (replicate 16 0) 0 (secretOf (sizes v) k n c) (omega (arith, h .secret))
 
     pub told : (q : Sizes) → q ≡ sizes v → (t₁ t₂ : Bytes) → t₁ ≡ putBytes t 0 (le 8 (r .length)) → t₂ ≡ putBytes t₁ 8 (take (q .secret - 0) (r .secret))
         → t₂ ≡ openCallInfo v k n a c o t

@@ -1,5 +1,5 @@
--- The state of ICEPOLE as its bytes (003, 2.3; 01, "The permutation"): bit z of word number w = x + 4y is state bit 64w + z, and byte j covers bits 8j to 8j + 7,
--- low bit first.
+-- The state of ICEPOLE as its bytes (003, 2.3; 01, "The permutation"): bit z of word number w = x + 4y is state bit 64w + z, and byte j covers bits 8j to
+-- 8j + 7, low bit first.
 -- Assumes nothing.
 use mathlib.Core.List.{List, [], _++_}
 use Prim.Native.Nat.{ℕ, zero, suc, _+_, _*_, _/_, _%_}
@@ -7,9 +7,12 @@ use Rattle.permutation.specs.State.{State, tabulate, at}
 use Rattle.permutation.specs.Permutation.{P, start}
 use Rattle.bytes_le.specs.Bytes.{Bytes, le, leAt}
 
--- how many bytes a state has: four columns of five words of eight
+-- the words of a state, four columns by five, and its bytes
+abbrev pub stateWords : ℕ
+stateWords = 20
+
 abbrev pub stateLength : ℕ
-stateLength = 160
+stateLength = 8 * stateWords
 
 -- word number w: S[x][y] with w = x + 4y
 abbrev pub wordOf : State → ℕ → ℕ
@@ -22,7 +25,7 @@ bytesBelow s (suc w) = bytesBelow s w ++ le 8 (wordOf s w)
 
 -- the bytes of a state
 unfoldable pub bytesOf : State → Bytes
-bytesOf s = bytesBelow s 20
+bytesOf s = bytesBelow s stateWords
 
 -- column x of the state whose bytes are v
 unfoldable pub column : Bytes → ℕ → List ℕ

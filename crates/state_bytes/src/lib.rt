@@ -6,8 +6,10 @@ ghost use Rattle.state_bytes.specs.StateBytes.{stateLength, bytesOf, sta
 
 type State = [[u64; 5]; 4];
 
-// Bytes of a state.
-pub const STATE_BYTES: usize = 160;
+// Words and bytes of a state.
+const STATE_WORDS: usize = 20;
+
+pub const STATE_BYTES: usize = 8 * STATE_WORDS;
 
 // Column x of the state whose bytes are b.
 fn load_column(b: &[u8], x: usize) -> [u64; 5]
@@ -42,7 +44,7 @@ pub fn to_bytes(s: State) -> [u8; STATE_BYTES]
 {
     let mut b = [0u8; STATE_BYTES];
     let mut w: usize = 0;
-    while w < 20 {
+    while w < STATE_WORDS {
         let x = w % 4;
         let y = w / 4;
         let k = s[x][y];

@@ -17,7 +17,7 @@ ghost use Rattle.bytes_le.specs.Bytes.{putBytes};
 ghost use Rattle.icepole.specs.declared.Variant.the-variants.{Icepole128};
 ghost use Rattle.icepole.specs.Variants.{sizes};
 ghost use Rattle.state_bytes.specs.StateBytes.{bytesOf};
-ghost use Rattle.strips.specs.Machine.{held, fed, fedBytes, fillOf, ended};
+ghost use Rattle.strips.specs.Machine.{held, fed, fedBytes, fillOf};
 ghost use Rattle.strips.specs.Answers.{block, startNumber, stripNumber, endNumber, startAnswer, startOutput, stripAnswer, stripOutput, endAnswer, endOutput};
 
 // Strip state finished, or its count too large (01, "Turned down, by example").
@@ -30,8 +30,8 @@ pub struct StripState {
     pub finished: bool,
 }
 
-// What each call answers: a refusal number with its mark, or the count of bytes written and the state for the next call. A call turned down returns the state it
-// was given; a start, a finished one.
+// What each call answers: a refusal number with its mark, or the count of bytes written and the state for the next call. A call turned down returns the state
+// it was given; a start, a finished one.
 pub struct StripAnswer {
     pub refusal: u32,
     pub mark: u32,
@@ -176,8 +176,10 @@ pub fn start(
     second: &[u8],
     out: &mut [u8],
 ) -> StripAnswer
-    ensures { λ r. ⌜ (r ≡ startAnswer (now (key .entry)) (now (nonce .entry)) (now (secret .entry)) (now (first .entry) ++ now (second .entry)) (now (out .entry)))
-        × (now (out .exit) ≡ startOutput (now (key .entry)) (now (nonce .entry)) (now (secret .entry)) (now (first .entry) ++ now (second .entry)) (now (out .entry))) ⌝ }
+    ensures { λ r. ⌜ (r ≡ startAnswer (now (key .entry)) (now (nonce .entry)) (now (secret .entry)) (now (first .entry) ++ now (second .entry))
+        (now (out .entry)))
+        × (now (out .exit) ≡ startOutput (now (key .entry)) (now (nonce .entry)) (now (secret .entry)) (now (first .entry) ++ now (second .entry))
+        (now (out .entry))) ⌝ }
 {
     let q = icepole::sizes_of(Variant::Icepole128);
     let number = start_number(

@@ -11,7 +11,7 @@ use Rattle.state_bytes.specs.StateBytes.{bytesOf}
 use Rattle.bytes_le.proofs.Laws.{put-none}
 use Rattle.state_bytes.proofs.Lengths.{length-bytes}
 use Rattle.icepole.specs.Sealing.{_⊕₈_, absorb, decrypt}
-use Rattle.icepole.proofs.Blocks.{decrypt-last, length-decrypt}
+use Rattle.icepole.proofs.Blocks.{length-decrypt}
 use Rattle.icepole.proofs.Steps.{length-part}
 use Rattle.icepole.proofs.Turns.{decrypt-end, decrypt-turn, window}
 use Rattle.icepole.proofs.decrypt_message.Statement.{statement}

@@ -5,7 +5,6 @@ use mathlib.Core.Path.{sym}
 use borrow.Author.Tests.{le-leb}
 use borrow.Author.Needs.{needs}
 use Prim.Native.Nat.{_+_, _-_}
-use Rattle.icepole.specs.Sealing.{sealed}
 use Rattle.icepole.proofs.message_fits.Statement.{statement}
 use Rattle.icepole.proofs.message_fits.Tie as tie
 

@@ -4,10 +4,8 @@ use mathlib.Core.Path.{ap, _∙_}
 use mathlib.Core.Bool.{true}
 use Prim.Native.Nat.{_+_}
 use borrow.Author.Needs.{needs}
-use Rattle.bytes_le.proofs.Loads.{fits}
 use Rattle.icepole.specs.Answers.{openNumber}
 use Rattle.icepole.specs.Bounds.{Bounded}
-use Rattle.icepole.specs.Sealing.{sealed}
 use Rattle.icepole.specs.declared.Sizes.{Sizes}
 use Rattle.icepole.proofs.Bounds.{bounded-by}
 use Rattle.icepole.proofs.open_number.Statement.{statement}

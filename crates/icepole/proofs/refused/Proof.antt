@@ -3,7 +3,6 @@
 use native.Mathlib.Omega.{arith}
 use mathlib.Core.Path.{sym}
 use borrow.Author.Tests.{ne-eqb}
-use Rattle.bits.specs.Bits.{number}
 use Rattle.icepole.proofs.refused.Statement.{statement}
 use Rattle.icepole.proofs.refused.Tie as tie
 

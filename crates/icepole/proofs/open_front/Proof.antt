@@ -1,0 +1,93 @@
+-- `icepole::open_front` meets its contract: a number that is not 0 is the answer; else the tag decides.
+-- Assumes nothing.
+use mathlib.Core.Path.{refl, sym, ap, _∙_}
+use mathlib.Core.List.{_++_}
+use native.Mathlib.Omega.{arith}
+use borrow.Author.Needs.{needs}
+use Rattle.icepole.specs.Bounds.{Bounded}
+use Rattle.icepole.specs.Sealing.{readyOf}
+use Rattle.icepole.specs.declared.Sizes.{Sizes}
+use Rattle.icepole.proofs.Answers.{not-opened, open-differs, open-done, open-refused}
+use Rattle.icepole.proofs.Bounds.{bounded-by}
+use Rattle.icepole.proofs.Numbers.{open-fits}
+use Rattle.icepole.proofs.Whole.{agrees-by}
+use Rattle.icepole.proofs.open_front.Statement.{statement}
+use Rattle.icepole.proofs.open_front.Tie as tie
+
+bounds : (p : tie.After-sizes-of) → Bounded (p .sizes-of .result)
+bounds p = bounded-by (p .before .before .before .before .before .before .args .v) _ (p .sizes-of .ensures)
+
+open-number-of-requires : tie.Need-open-number-of-requires
+open-number-of-requires c κs = bounds c
+
+returns : tie.Need-returns
+returns c =
+    let p = c .before .before in
+    let q = p .before .sizes-of in
+    let a = p .before .before .before .before .before .before .before .args in (
+      open-refused (a .v) _ (q .ensures) (a .key .now) (a .nonce .now) (a .first .now) (a .second .now) (a .sealed .now) (a .fits)
+          _ (p .open-number-of .ensures) (c .before .if1 .taken) _ (c .refused .ensures),
+      λ z. absurd (not-opened _ (c .before .if1 .taken) _ (c .refused .ensures) z),
+    )
+
+open-ready-requires : tie.Need-open-ready-requires
+open-ready-requires c κs =
+    let p = c .before .before in
+    let w = open-fits _ _ _ _ _ _ _ (sym (p .open-number-of .ensures) ∙ c .before .if1 .left) in
+    (bounds (p .before), w .key, w .nonce, w .associated, omega (arith, w .sealed), refl)
+
+tag-agrees-requires : tie.Need-tag-agrees-requires
+tag-agrees-requires c κs =
+    let p = c .before .before .before .before in
+    let w = open-fits _ _ _ _ _ _ _ (sym (p .open-number-of .ensures) ∙ c .before .before .before .if1 .left) in
+    (bounds (p .before), w .sealed)
+
+add-t23 : tie.Need-add-t23
+add-t23 c = let h = bounds (c .before .before .before .before .before .before .before .before) in omega (arith, h .secret)
+
+sub-t24 : tie.Need-sub-t24
+sub-t24 c =
+    let p = c .before .before .before .before .before .before .before in
+    let w = open-fits _ _ _ _ _ _ _ (sym (p .open-number-of .ensures) ∙ c .before .before .before .before .before .before .if1 .left) in
+    omega (arith, w .sealed)
+
+returns-2 : tie.Need-returns-2
+returns-2 c =
+    let o = c .before .before .before .before .open-ready in
+    let p = c .before .before .before .before .before .before .before in
+    let q = p .before .sizes-of in
+    let a = p .before .before .before .before .before .before .before .args in
+    let t = agrees-by (a .v) _ (q .ensures) _ _ _ _ _ _ (o .ensures .0) (c .before .before .tag-agrees .ensures) in (
+      open-done (a .v) _ (q .ensures) (a .key .now) (a .nonce .now) (a .first .now) (a .second .now) (a .sealed .now) (a .fits)
+          _ (p .open-number-of .ensures) (c .before .before .before .before .before .before .if1 .left) (sym t ∙ c .before .if2 .taken) _ refl _ (o .ensures .1),
+      λ z. o .ensures .0 ∙ ap (λ (q : Sizes). readyOf q (a .key .now) (a .nonce .now) (a .first .now ++ a .second .now) (a .sealed .now)) (q .ensures),
+    )
+
+returns-3 : tie.Need-returns-3
+returns-3 c =
+    let o = c .before .before .before .before .open-ready in
+    let p = c .before .before .before .before .before .before .before in
+    let q = p .before .sizes-of in
+    let a = p .before .before .before .before .before .before .before .args in
+    let t = agrees-by (a .v) _ (q .ensures) _ _ _ _ _ _ (o .ensures .0) (c .before .before .tag-agrees .ensures) in (
+      open-differs (a .v) _ (q .ensures) (a .key .now) (a .nonce .now) (a .first .now) (a .second .now) (a .sealed .now) (a .fits)
+          _ (p .open-number-of .ensures) (c .before .before .before .before .before .before .if1 .left) (sym t ∙ c .before .if2 .left) _ (c .refused2 .ensures),
+      λ z. absurd (not-opened 7 (λ e. omega arith) _ (c .refused2 .ensures) z),
+    )
+
+pub open-front-spec : {M : Type 1} → statement M
+open-front-spec =
+    tie.close
+    (tie.spec
+    (λ c κs. search needs)
+    open-number-of-requires
+    (λ c κs. search needs)
+    returns
+    (λ c. search needs)
+    open-ready-requires
+    tag-agrees-requires
+    add-t23
+    sub-t24
+    returns-2
+    (λ c κs. search needs)
+    returns-3)
