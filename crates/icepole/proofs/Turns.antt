@@ -74,53 +74,49 @@ module _ (r : ℕ) (hr : 0 < r) (d : Bytes) (at : ℕ) where
         length-xor s (take r (drop at d)) (omega arith) ∙ l
 
     module _ (o o₁ o₂ c : Bytes) (to : ℕ) (lc : length c ≡ length d) (ho : to + length d ≤ length o) (e₁ : o₁ ≡ putBytes o to (take at c)) where
-      -- ---- the ciphertext c of a message
+      -- ---- F encrypts or decrypts: c is the ciphertext of a message, or the message of a ciphertext
+      module _ (F : Bytes → Bytes → Bytes) (e : F s (drop at d) ≡ drop at c) where
+        -- u is the state after a full block
+        turn : (u t : Bytes) → r < length d - at → F s (drop at d) ≡ (s ⊕₈ take r (drop at d)) ++ F u (drop r (drop at d)) → t ≡ u
+            → o₂ ≡ putBytes o₁ (to + at) (s ⊕₈ take r (drop at d))
+            → (F t (drop (at + r) d) ≡ drop (at + r) c) × (o₂ ≡ putBytes o to (take (at + r) c))
+        turn u t h more et e₂ =
+            let w = s ⊕₈ take r (drop at d) in
+            let x = F u (drop r (drop at d)) in
+            let lw : length (s ⊕₈ take r (drop at d)) ≡ r = length-b h in
+            let f : drop at c ≡ w ++ x = sym e ∙ more in (
+              ap₂ F et (sym (drop-drop r at d)) ∙ sym (drop-at w x r lw) ∙ ap (drop r) (sym f) ∙ drop-drop r at c,
+              rw lw at (put-turn o o₁ o₂ c w x to at (omega arith) (rw lc ho) f e₁ e₂),
+            )
+
+        -- the last block
+        end : (k : ℕ) → at ≤ length d → k ≡ length d - at → k ≤ r → F s (drop at d) ≡ s ⊕₈ drop at d
+            → o₂ ≡ putBytes o₁ (to + at) (s ⊕₈ take k (drop at d)) → o₂ ≡ putBytes o to c
+        end k ha ek h last e₂ =
+            let w = s ⊕₈ take k (drop at d) in
+            let lk : length (take k (drop at d)) ≡ k = length-part d at k (omega arith) in
+            let lw : length (s ⊕₈ take k (drop at d)) ≡ k = length-xor s (take k (drop at d)) (omega arith) ∙ lk in
+            let f : drop at c ≡ w ++ [] = sym e ∙ last ∙ ap (λ (b : Bytes). s ⊕₈ b) (sym (rest d at k ek)) ∙ sym (append-nil w) in
+            put-turn o o₁ o₂ c w [] to at (omega arith) (rw lc ho) f e₁ e₂
+            ∙ ap (putBytes o to) (take-all (at + length w) c (omega arith))
+
       pub encrypt-turn : (t : Bytes) → r < length d - at → encrypt r s (drop at d) ≡ drop at c → t ≡ absorb s (take r (drop at d)) 1
           → o₂ ≡ putBytes o₁ (to + at) (s ⊕₈ take r (drop at d))
           → (encrypt r t (drop (at + r) d) ≡ drop (at + r) c) × (o₂ ≡ putBytes o to (take (at + r) c))
-      encrypt-turn t h e et e₂ =
-          let w = s ⊕₈ take r (drop at d) in
-          let x = encrypt r (absorb s (take r (drop at d)) 1) (drop r (drop at d)) in
-          let lw : length (s ⊕₈ take r (drop at d)) ≡ r = length-b h in
-          let f : drop at c ≡ w ++ x = sym e ∙ encrypt-more r hr s (drop at d) (longer h) in (
-            ap₂ (encrypt r) et (sym (drop-drop r at d)) ∙ sym (drop-at w x r lw) ∙ ap (drop r) (sym f) ∙ drop-drop r at c,
-            rw lw at (put-turn o o₁ o₂ c w x to at (omega arith) (rw lc ho) f e₁ e₂),
-          )
+      encrypt-turn t h e = turn (encrypt r) e (absorb s (take r (drop at d)) 1) t h (encrypt-more r hr s (drop at d) (longer h))
 
       pub encrypt-end : (k : ℕ) → at ≤ length d → k ≡ length d - at → k ≤ r → encrypt r s (drop at d) ≡ drop at c
           → o₂ ≡ putBytes o₁ (to + at) (s ⊕₈ take k (drop at d)) → o₂ ≡ putBytes o to c
-      encrypt-end k ha ek h e e₂ =
-          let w = s ⊕₈ take k (drop at d) in
-          let lk : length (take k (drop at d)) ≡ k = length-part d at k (omega arith) in
-          let lw : length (s ⊕₈ take k (drop at d)) ≡ k = length-xor s (take k (drop at d)) (omega arith) ∙ lk in
-          let f : drop at c ≡ w ++ [] =
-          sym e ∙ encrypt-last r hr s (drop at d) (shorter (rw ek at h)) ∙ ap (λ (b : Bytes). s ⊕₈ b) (sym (rest d at k ek)) ∙ sym (append-nil w) in
-          put-turn o o₁ o₂ c w [] to at (omega arith) (rw lc ho) f e₁ e₂
-          ∙ ap (putBytes o to) (take-all (at + length w) c (omega arith))
+      encrypt-end k ha ek h e = end (encrypt r) e k ha ek h (encrypt-last r hr s (drop at d) (shorter (rw ek at h)))
 
-      -- ---- the message c of a ciphertext
       pub decrypt-turn : (t : Bytes) → r < length d - at → decrypt r s (drop at d) ≡ drop at c → t ≡ absorb s (s ⊕₈ take r (drop at d)) 1
           → o₂ ≡ putBytes o₁ (to + at) (s ⊕₈ take r (drop at d))
           → (decrypt r t (drop (at + r) d) ≡ drop (at + r) c) × (o₂ ≡ putBytes o to (take (at + r) c))
-      decrypt-turn t h e et e₂ =
-          let w = s ⊕₈ take r (drop at d) in
-          let x = decrypt r (absorb s (s ⊕₈ take r (drop at d)) 1) (drop r (drop at d)) in
-          let lw : length (s ⊕₈ take r (drop at d)) ≡ r = length-b h in
-          let f : drop at c ≡ w ++ x = sym e ∙ decrypt-more r hr s (drop at d) (longer h) in (
-            ap₂ (decrypt r) et (sym (drop-drop r at d)) ∙ sym (drop-at w x r lw) ∙ ap (drop r) (sym f) ∙ drop-drop r at c,
-            rw lw at (put-turn o o₁ o₂ c w x to at (omega arith) (rw lc ho) f e₁ e₂),
-          )
+      decrypt-turn t h e = turn (decrypt r) e (absorb s (s ⊕₈ take r (drop at d)) 1) t h (decrypt-more r hr s (drop at d) (longer h))
 
       pub decrypt-end : (k : ℕ) → at ≤ length d → k ≡ length d - at → k ≤ r → decrypt r s (drop at d) ≡ drop at c
           → o₂ ≡ putBytes o₁ (to + at) (s ⊕₈ take k (drop at d)) → o₂ ≡ putBytes o to c
-      decrypt-end k ha ek h e e₂ =
-          let w = s ⊕₈ take k (drop at d) in
-          let lk : length (take k (drop at d)) ≡ k = length-part d at k (omega arith) in
-          let lw : length (s ⊕₈ take k (drop at d)) ≡ k = length-xor s (take k (drop at d)) (omega arith) ∙ lk in
-          let f : drop at c ≡ w ++ [] =
-          sym e ∙ decrypt-last r hr s (drop at d) (shorter (rw ek at h)) ∙ ap (λ (b : Bytes). s ⊕₈ b) (sym (rest d at k ek)) ∙ sym (append-nil w) in
-          put-turn o o₁ o₂ c w [] to at (omega arith) (rw lc ho) f e₁ e₂
-          ∙ ap (putBytes o to) (take-all (at + length w) c (omega arith))
+      decrypt-end k ha ek h e = end (decrypt r) e k ha ek h (decrypt-last r hr s (drop at d) (shorter (rw ek at h)))
 
     -- ---- the state after the message of a ciphertext
     pub checked-turn : (t R : Bytes) → r < length d - at → absorbMessage r s (decrypt r s (drop at d)) ≡ R → t ≡ absorb s (s ⊕₈ take r (drop at d)) 1
