@@ -38,7 +38,7 @@ module _ (key : Bytes) (i : Identity) (b : Bytes) (e : Edition) (own : e ≡ wri
   unfolding beginRefusal
   begins-own = ap (λ (x : Edition). beginNumber x (length key) (length (i .siteMark)) (length b)) own
 
-  pub begin-refused : (num : ℕ) → num ≡ Begins → (num ≡ 0 → ⊥) → (r : Recorder) → r ≡ newRecorder (replicate 16 0) (record { name = record { «burst_number» = 0 }; siteMark = replicate 16 0 }) 0 true
+  pub begin-refused : (num : ℕ) → num ≡ Begins → (num ≡ 0 → ⊥) → (r : Recorder) → r ≡ noRecorder
       → (begunWith num r ≡ beginAnswer key i b) × (b ≡ beginBuffer key i b)
   unfolding beginAnswer beginBuffer noRecorder
   begin-refused num n h r f =
@@ -85,18 +85,24 @@ module _ (r : Recorder) (e : Edition) (own : e ≡ editionOf r) where
     keep-refused num n h =
         let z = sym (n ∙ keeps-own) in (sym (simp (z, ne-eqb num 0 h)), sym (simp (z, ne-eqb num 0 h)))
 
-    pub keep-done : Keeps ≡ 0 → (next : Recorder) → next ≡ afterKeep r (length p) → (b′ : Bytes) → b′ ≡ putBytes b (r .used) (recordBytes e (r .key) (nameOf r) (r .taken .0 + 1) (r .used) s p)
+    abbrev recordAt : Edition → Bytes
+    recordAt x = recordBytes x (r .key) (nameOf r) (r .taken .0 + 1) (r .used) s p
+
+    pub keep-done : Keeps ≡ 0 → (next : Recorder) → next ≡ afterKeep r (length p) → (b′ : Bytes) → b′ ≡ putBytes b (r .used) (recordAt e)
         → (shotWith 0 (next .taken .0) next ≡ keepAnswer r s p b) × (b′ ≡ keepBuffer r s p b)
     unfolding keepAnswer keepBuffer afterKeep
     keep-done n next f b′ g =
         let z = sym keeps-own ∙ n in (
           ap (λ (n : Recorder). shotWith 0 (n .taken .0) n) f ∙ sym (simp z),
-          g ∙ ap (λ (x : Edition). putBytes b (r .used) (recordBytes x (r .key) (nameOf r) (r .taken .0 + 1) (r .used) s p)) own ∙ sym (simp z),
+          g ∙ ap (λ (x : Edition). putBytes b (r .used) (recordAt x)) own ∙ sym (simp z),
         )
 
   -- ---- close
   abbrev headerAt : Edition → Bytes
   headerAt x = headerBytes x (nameOf r) (r .taken .0) (r .kept .0) (r .taken .0 - r .kept .0) (r .used)
+
+  abbrev endAt : Edition → Bytes
+  endAt x = recorderIndex r ++ closingSeal x (r .key) (identityOf r) (headerAt x) (recorderIndex r)
 
   module _ (b : Bytes) where
     abbrev Closes : ℕ
@@ -111,21 +117,28 @@ module _ (r : Recorder) (e : Edition) (own : e ≡ editionOf r) where
     close-refused num n h =
         let z = sym (n ∙ closes-own) in (sym (simp (z, ne-eqb num 0 h)), sym (simp (z, ne-eqb num 0 h)))
 
-    pub close-done : Closes ≡ 0 → (b′ : Bytes) → b′ ≡ putBytes (putBytes b 0 (headerAt e)) (r .used) (recorderIndex r ++ closingSeal e (r .key) (identityOf r) (headerAt e) (recorderIndex r))
+    pub close-done : Closes ≡ 0 → (b′ : Bytes) → b′ ≡ putBytes (putBytes b 0 (headerAt e)) (r .used) (endAt e)
         → (closedWith 0 (totalFrom (r .used) (r .kept .0)) (afterClose r) ≡ closeAnswer r b) × (b′ ≡ closeBuffer r b)
     unfolding closeAnswer closeBuffer recorderHeader recorderSeal
     close-done n b′ g =
         let z = sym closes-own ∙ n in (
           sym (simp z),
-          g
-              ∙ ap (λ (x : Edition). putBytes (putBytes b 0 (headerAt x)) (r .used) (recorderIndex r ++ closingSeal x (r .key) (identityOf r) (headerAt x) (recorderIndex r))) own
-              ∙ sym (simp z),
+          g ∙ ap (λ (x : Edition). putBytes (putBytes b 0 (headerAt x)) (r .used) (endAt x)) own ∙ sym (simp z),
         )
 
 -- ---- the recorder after a picture, built field by field with the entry e
-pub kept-with : (r : Recorder) (n : ℕ) (e : Entry) → e ≡ entryOf (r .taken .0 + 1) (r .used) n
-    → record { key = r .key; «burst_number» = r .«burst_number»; «site_mark» = r .«site_mark»; taken = e .shot; kept = record { 0 = r .kept .0 + 1 }; used = usedAfter (r .used) n; entries = set (r .entries) (r .kept .0) e; closed = r .closed }
-    ≡ afterKeep r n
+abbrev withEntry : Recorder → ℕ → Entry → Recorder
+withEntry r n e = record {
+  key = r .key;
+  «burst_number» = r .«burst_number»;
+  «site_mark» = r .«site_mark»;
+  taken = e .shot;
+  kept = record { 0 = r .kept .0 + 1 };
+  used = usedAfter (r .used) n;
+  entries = set (r .entries) (r .kept .0) e;
+  closed = r .closed;
+}
+
+pub kept-with : (r : Recorder) (n : ℕ) (e : Entry) → e ≡ entryOf (r .taken .0 + 1) (r .used) n → withEntry r n e ≡ afterKeep r n
 unfolding afterKeep
-kept-with r n e f =
-    ap (λ (x : Entry). let y : Recorder = record { key = r .key; «burst_number» = r .«burst_number»; «site_mark» = r .«site_mark»; taken = x .shot; kept = record { 0 = r .kept .0 + 1 }; used = usedAfter (r .used) n; entries = set (r .entries) (r .kept .0) x; closed = r .closed } in y) f
+kept-with r n e f = ap (withEntry r n) f

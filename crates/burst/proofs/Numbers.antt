@@ -7,40 +7,41 @@ use borrow.Author.Tests.{le-leb, lt-leb, eq-eqb, ne-eqb, lt-ltb, le-ltb, leb-fal
 use lib.Dec.{eqb, leb, ltb}
 use Rattle.icepole.proofs.Numbers.{passed, neither}
 use Rattle.burst.specs.declared.Edition.{Edition}
+use Rattle.burst.specs.Parts.{keyLength, markLength}
 use Rattle.burst.specs.Layout.{maxPicture}
 use Rattle.burst.specs.Numbers.{usedAfter, totalFrom, beginNumber, keepNumber, dropNumber, closeNumber}
 
 -- ---- begin
 module _ (e : Edition) (k m b : ℕ) where
-  pub begin-1 : (k ≡ 16 → ⊥) → 1 ≡ beginNumber e k m b
+  pub begin-1 : (k ≡ keyLength → ⊥) → 1 ≡ beginNumber e k m b
   unfolding beginNumber
-  begin-1 h = sym (simp (ne-eqb k 16 h))
+  begin-1 h = sym (simp (ne-eqb k keyLength h))
 
-  module _ (h₁ : k ≡ 16) where
-    pub begin-3 : (m ≡ 16 → ⊥) → 3 ≡ beginNumber e k m b
+  module _ (h₁ : k ≡ keyLength) where
+    pub begin-3 : (m ≡ markLength → ⊥) → 3 ≡ beginNumber e k m b
     unfolding beginNumber
-    begin-3 h = sym (simp (eq-eqb k 16 h₁, ne-eqb m 16 h))
+    begin-3 h = sym (simp (eq-eqb k keyLength h₁, ne-eqb m markLength h))
 
-    module _ (h₂ : m ≡ 16) where
-      pub begin-11 : b < e .header + 12 * 0 + 32 → 11 ≡ beginNumber e k m b
+    module _ (h₂ : m ≡ markLength) where
+      pub begin-11 : b < totalFrom (e .header) 0 → 11 ≡ beginNumber e k m b
       unfolding beginNumber
-      begin-11 h = sym (simp (eq-eqb k 16 h₁, eq-eqb m 16 h₂, lt-ltb b (e .header + 12 * 0 + 32) h))
+      begin-11 h = sym (simp (eq-eqb k keyLength h₁, eq-eqb m markLength h₂, lt-ltb b (totalFrom (e .header) 0) h))
 
-      pub begin-0 : e .header + 12 * 0 + 32 ≤ b → 0 ≡ beginNumber e k m b
+      pub begin-0 : totalFrom (e .header) 0 ≤ b → 0 ≡ beginNumber e k m b
       unfolding beginNumber
-      begin-0 h = sym (simp (eq-eqb k 16 h₁, eq-eqb m 16 h₂, le-ltb b (e .header + 12 * 0 + 32) h))
+      begin-0 h = sym (simp (eq-eqb k keyLength h₁, eq-eqb m markLength h₂, le-ltb b (totalFrom (e .header) 0) h))
 
 pub record Begins (e : Edition) (k m b : ℕ) : Type 0 where
-  pub key : k ≡ 16
-  pub mark : m ≡ 16
-  pub room : e .header + 12 * 0 + 32 ≤ b
+  pub key : k ≡ keyLength
+  pub mark : m ≡ markLength
+  pub room : totalFrom (e .header) 0 ≤ b
 
 pub begins : (e : Edition) (k m b : ℕ) → beginNumber e k m b ≡ 0 → Begins e k m b
 unfolding beginNumber
 begins e k m b h =
-    let p₁ = passed (not (eqb k 16)) _ _ h in
-    let p₃ = passed (not (eqb m 16)) _ _ (p₁ .1) in
-    let p₁₁ = passed (ltb b (e .header + 12 * 0 + 32)) _ _ (p₃ .1) in
+    let p₁ = passed (not (eqb k keyLength)) _ _ h in
+    let p₃ = passed (not (eqb m markLength)) _ _ (p₁ .1) in
+    let p₁₁ = passed (ltb b (totalFrom (e .header) 0)) _ _ (p₃ .1) in
     record { key = eqb-true _ _ (not-false _ (p₁ .0)); mark = eqb-true _ _ (not-false _ (p₃ .0)); room = ltb-false _ _ (p₁₁ .0) }
 
 -- ---- keep: s whether sound, t taken, k kept, u used, m stamp, p picture, b buffer
@@ -53,47 +54,47 @@ module _ (e : Edition) (s : Bool) (t k u m p b : ℕ) where
   keep-8 h = sym (simp h)
 
   module _ (h₁ : s ≡ true) where
-    pub keep-3 : (m ≡ 16 → ⊥) → 3 ≡ N
+    pub keep-3 : (m ≡ markLength → ⊥) → 3 ≡ N
     unfolding keepNumber
-    keep-3 h = sym (simp (h₁, ne-eqb m 16 h))
+    keep-3 h = sym (simp (h₁, ne-eqb m markLength h))
 
-    module _ (h₂ : m ≡ 16) where
+    module _ (h₂ : m ≡ markLength) where
       pub keep-9 : e .shots ≤ t → 9 ≡ N
       unfolding keepNumber
-      keep-9 h = sym (simp (h₁, eq-eqb m 16 h₂, le-leb (e .shots) t h))
+      keep-9 h = sym (simp (h₁, eq-eqb m markLength h₂, le-leb (e .shots) t h))
 
       module _ (h₃ : t < e .shots) where
         pub keep-10 : p < 1 → 10 ≡ N
         unfolding keepNumber
-        keep-10 h = sym (simp (h₁, eq-eqb m 16 h₂, lt-leb (e .shots) t h₃, lt-ltb p 1 h))
+        keep-10 h = sym (simp (h₁, eq-eqb m markLength h₂, lt-leb (e .shots) t h₃, lt-ltb p 1 h))
 
         module _ (h₄ : 1 ≤ p) where
           pub keep-10′ : maxPicture < p → 10 ≡ N
           unfolding keepNumber
-          keep-10′ h = sym (simp (h₁, eq-eqb m 16 h₂, lt-leb (e .shots) t h₃, le-ltb p 1 h₄, lt-ltb maxPicture p h))
+          keep-10′ h = sym (simp (h₁, eq-eqb m markLength h₂, lt-leb (e .shots) t h₃, le-ltb p 1 h₄, lt-ltb maxPicture p h))
 
           module _ (h₅ : p ≤ maxPicture) where
             pub keep-11 : b < totalFrom (usedAfter u p) (k + 1) → 11 ≡ N
             unfolding keepNumber
-            keep-11 h = sym (simp (h₁, eq-eqb m 16 h₂, lt-leb (e .shots) t h₃, le-ltb p 1 h₄, le-ltb maxPicture p h₅, lt-ltb b (totalFrom (usedAfter u p) (k + 1)) h))
+            keep-11 h = sym (simp (h₁, eq-eqb m markLength h₂, lt-leb (e .shots) t h₃, le-ltb p 1 h₄, le-ltb maxPicture p h₅, lt-ltb b (totalFrom (usedAfter u p) (k + 1)) h))
 
             pub keep-0 : totalFrom (usedAfter u p) (k + 1) ≤ b → 0 ≡ N
             unfolding keepNumber
-            keep-0 h = sym (simp (h₁, eq-eqb m 16 h₂, lt-leb (e .shots) t h₃, le-ltb p 1 h₄, le-ltb maxPicture p h₅, le-ltb b (totalFrom (usedAfter u p) (k + 1)) h))
+            keep-0 h = sym (simp (h₁, eq-eqb m markLength h₂, lt-leb (e .shots) t h₃, le-ltb p 1 h₄, le-ltb maxPicture p h₅, le-ltb b (totalFrom (usedAfter u p) (k + 1)) h))
 
 pub record Keeps (e : Edition) (s : Bool) (t k u m p b : ℕ) : Type 0 where
   pub sound : s ≡ true
-  pub stamp : m ≡ 16
+  pub stamp : m ≡ markLength
   pub more : t < e .shots
   pub least : 1 ≤ p
-  pub most : p ≤ 1048576
-  pub room : u + p + 32 + 12 * (k + 1) + 32 ≤ b
+  pub most : p ≤ maxPicture
+  pub room : totalFrom (usedAfter u p) (k + 1) ≤ b
 
 pub keeps : (e : Edition) (s : Bool) (t k u m p b : ℕ) → keepNumber e s t k u m p b ≡ 0 → Keeps e s t k u m p b
 unfolding keepNumber
 keeps e s t k u m p b h =
     let p₈ = passed (not s) _ _ h in
-    let p₃ = passed (not (eqb m 16)) _ _ (p₈ .1) in
+    let p₃ = passed (not (eqb m markLength)) _ _ (p₈ .1) in
     let p₉ = passed (leb (e .shots) t) _ _ (p₃ .1) in
     let p₁₀ = passed (ltb p 1 || ltb maxPicture p) _ _ (p₉ .1) in
     let p₁₁ = passed (ltb b (totalFrom (usedAfter u p) (k + 1))) _ _ (p₁₀ .1) in
@@ -144,7 +145,7 @@ module _ (s : Bool) (k u b : ℕ) where
     unfolding closeNumber
     close-0 h = sym (simp (h₁, le-ltb b (totalFrom u k) h))
 
-pub closes : (s : Bool) (k u b : ℕ) → closeNumber s k u b ≡ 0 → (s ≡ true) × (u + 12 * k + 32 ≤ b)
+pub closes : (s : Bool) (k u b : ℕ) → closeNumber s k u b ≡ 0 → (s ≡ true) × (totalFrom u k ≤ b)
 unfolding closeNumber
 closes s k u b h =
     let p₈ = passed (not s) _ _ h in

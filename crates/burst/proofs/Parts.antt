@@ -1,4 +1,5 @@
--- The laws of a sealed part: its length, opening after sealing, sealing after opening (so that only what was sealed opens), and bytes stay bytes. Then what the calls of `icepole` answer of it. The laws of ICEPOLE-128 are used here and nowhere above.
+-- The laws of a sealed part: its length, opening after sealing, sealing after opening (so that only what was sealed opens), and bytes stay bytes. Then
+-- what the calls of `icepole` answer of it. The laws of ICEPOLE-128 are used here and nowhere above.
 -- Assumes nothing.
 use mathlib.Core.Bool.{Bool, true, false, cond, not}
 use mathlib.Core.List.{[], _++_, append-nil}
@@ -21,13 +22,13 @@ use Rattle.icepole.proofs.OpenedBytes.{secret-bytes, message-bytes}
 use Rattle.burst.specs.declared.Edition.{Edition}
 use Rattle.burst.specs.declared.Name.{Name}
 use Rattle.burst.specs.Editions.{maxHeader}
-use Rattle.burst.specs.Parts.{sealLength, nonceOf, sealPart, partAgrees, partMark, partBody, partNumber, partAnswer, partOutput}
+use Rattle.burst.specs.Parts.{sealLength, nonceOf, sealPart, partAgrees, partMark, partBody, partNumber, partAnswer, partOutput, keyLength, markLength}
 use Rattle.burst.specs.Layout.{Identity, maxPicture, maxIndex, entryBytes, recordBytes, closingSeal}
 use Rattle.burst.proofs.Puts.{length-nonce}
 
 module _ (e : Edition) (key : Bytes) (name : Name) (shot : ℕ) where
   -- ---- what was sealed
-  module _ (mark ad body : Bytes) (h : length mark ≡ 16) where
+  module _ (mark ad body : Bytes) (h : length mark ≡ markLength) where
     pub length-part : length (sealPart e key name shot mark ad body) ≡ length body + sealLength
     unfolding sealPart
     length-part =
@@ -50,7 +51,7 @@ module _ (e : Edition) (key : Bytes) (name : Name) (shot : ℕ) where
   -- ---- what is opened
   module _ (ad c : Bytes) where
     module _ (h : sealLength ≤ length c) where
-      pub length-mark : length (partMark e key name shot ad c) ≡ 16
+      pub length-mark : length (partMark e key name shot ad c) ≡ markLength
       unfolding partMark
       length-mark = length-secret-of (sizes Icepole128) (omega arith) (omega arith) (omega arith) key (nonceOf e name shot) ad c (omega arith)
 
@@ -76,15 +77,16 @@ module _ (e : Edition) (key : Bytes) (name : Name) (shot : ℕ) where
       body-bytes = message-bytes (sizes Icepole128) key (nonceOf e name shot) ad c h
 
   -- ---- what the calls of `icepole` leave and answer, where every length is right
-  module _ (key16 : length key ≡ 16) (nonce : Bytes) (is : nonce ≡ nonceOf e name shot) (ad : Bytes) (fits : length ad ≤ maxHeader + maxIndex) where
+  module _ (key16 : length key ≡ keyLength) (nonce : Bytes) (is : nonce ≡ nonceOf e name shot) (ad : Bytes) (fits : length ad ≤ maxHeader + maxIndex) where
     nonce16 : length nonce ≡ 16
     nonce16 = ap length is ∙ length-nonce e name shot
 
-    pub part-put : (mark body out : Bytes) → length mark ≡ 16 → length body ≤ maxPicture → length body + sealLength ≤ length out
+    pub part-put : (mark body out : Bytes) → length mark ≡ markLength → length body ≤ maxPicture → length body + sealLength ≤ length out
         → sealOutput Icepole128 key nonce mark ad body out ≡ putBytes out 0 (sealPart e key name shot mark ad body)
     unfolding sealOutput sealRefusal sealPart
     part-put mark body out hm hb ho =
-        let z = seal-0 (sizes Icepole128) (length key) (length nonce) (length mark) (length ad) (length body) (length out) key16 nonce16 hm (omega arith) (omega arith) (omega arith) in
+        let z = seal-0 (sizes Icepole128) (length key) (length nonce) (length mark) (length ad) (length body) (length out) key16 nonce16 hm (omega arith) (omega arith)
+        (omega arith) in
         (simp (sym z)) ∙ ap (λ (n : Bytes). putBytes out 0 (sealed (sizes Icepole128) key n mark ad body)) is
 
     module _ (c : Bytes) (least : sealLength ≤ length c) (most : length c ≤ maxPicture + sealLength) where
@@ -155,7 +157,7 @@ module _ (e : Edition) (key : Bytes) (name : Name) (shot : ℕ) where
   part-output ad c out h = simp h
 
   -- ---- a buffer whose part from `at` on was lent for a sealed part
-  pub part-at : (mark ad body b t ys : Bytes) (at u : ℕ) → length mark ≡ 16 → at + (length body + sealLength) ≤ length b → t ≡ drop at b → u ≡ length b - at
+  pub part-at : (mark ad body b t ys : Bytes) (at u : ℕ) → length mark ≡ markLength → at + (length body + sealLength) ≤ length b → t ≡ drop at b → u ≡ length b - at
       → ys ≡ putBytes t 0 (sealPart e key name shot mark ad body)
       → take at b ++ (ys ++ drop u (drop at b)) ≡ putBytes b at (sealPart e key name shot mark ad body)
   part-at mark ad body b t ys at u hm hb et eu ey =
@@ -165,7 +167,7 @@ module _ (e : Edition) (key : Bytes) (name : Name) (shot : ℕ) where
 
 -- the record, as `keep` lays it
 pub record-at : (e : Edition) (key : Bytes) (name : Name) (shot : ℕ) (stamp a picture b t ys : Bytes) (at u : ℕ) → a ≡ entryBytes shot 0 at (length picture)
-    → length stamp ≡ 16 → at + length picture + sealLength ≤ length b → t ≡ drop at b → u ≡ length b - at
+    → length stamp ≡ markLength → at + length picture + sealLength ≤ length b → t ≡ drop at b → u ≡ length b - at
     → ys ≡ putBytes t 0 (sealPart e key name shot stamp (a ++ []) picture)
     → take at b ++ (ys ++ drop u (drop at b)) ≡ putBytes b at (recordBytes e key name shot at stamp picture)
 unfolding recordBytes
@@ -174,7 +176,7 @@ record-at e key name shot stamp a picture b t ys at u ea hs hb et eu ey =
     ∙ ap (λ (x : Bytes). putBytes b at (sealPart e key name shot stamp x picture)) (append-nil a ∙ ea)
 
 -- header, index and closing seal, as `close` lays them
-pub closing-at : (e : Edition) (key : Bytes) (i : Identity) (h x b b₁ b₂ t ys : Bytes) (at end u : ℕ) → length (i .siteMark) ≡ 16
+pub closing-at : (e : Edition) (key : Bytes) (i : Identity) (h x b b₁ b₂ t ys : Bytes) (at end u : ℕ) → length (i .siteMark) ≡ markLength
     → end ≡ at + length x → length h ≤ at → end + sealLength ≤ length b
     → b₁ ≡ putBytes b 0 h → b₂ ≡ putBytes b₁ at x → t ≡ drop end b₂ → u ≡ length b₂ - end
     → ys ≡ putBytes t 0 (sealPart e key (i .name) 0 (i .siteMark) (h ++ x) [])

@@ -12,7 +12,8 @@ use Rattle.bytes_le.proofs.Laws.{put-put, take-put}
 use Rattle.burst.specs.declared.Entry.{Entry}
 use Rattle.burst.specs.declared.Edition.{Edition}
 use Rattle.burst.specs.declared.Name.{Name}
-use Rattle.burst.specs.Editions.{maxHeader, fieldsLength, Known}
+use Rattle.burst.specs.Fields.{fieldsLength}
+use Rattle.burst.specs.Editions.{maxHeader, Known}
 use Rattle.burst.specs.Parts.{nonceOf}
 use Rattle.burst.specs.Layout.{entryBytes, headerRest, headerBytes}
 use Rattle.burst.specs.Index.{bytesOfEntry, indexBytes}
@@ -77,7 +78,8 @@ module _ (e : Edition) (name : Name) (t k d u : ℕ) where
   fields = le 2 (e .number) ++ (le 2 t ++ (le 2 k ++ (le 2 d ++ (le 8 (name .«burst_number») ++ (le 4 (e .header) ++ (le 4 u ++ (le 4 (u + 12 * k) ++ le 4 (u + 12 * k + 32))))))))
 
   fields-put : (l h₁ h₂ h₃ h₄ h₅ h₆ h₇ h₈ h₉ : Bytes) → length l ≡ maxHeader
-      → h₁ ≡ putBytes l 0 (le 2 (e .number)) → h₂ ≡ putBytes h₁ 2 (le 2 t) → h₃ ≡ putBytes h₂ 4 (le 2 k) → h₄ ≡ putBytes h₃ 6 (le 2 d) → h₅ ≡ putBytes h₄ 8 (le 8 (name .«burst_number»))
+      → h₁ ≡ putBytes l 0 (le 2 (e .number)) → h₂ ≡ putBytes h₁ 2 (le 2 t) → h₃ ≡ putBytes h₂ 4 (le 2 k) → h₄ ≡ putBytes h₃ 6 (le 2 d)
+      → h₅ ≡ putBytes h₄ 8 (le 8 (name .«burst_number»))
       → h₆ ≡ putBytes h₅ 16 (le 4 (e .header)) → h₇ ≡ putBytes h₆ 20 (le 4 u) → h₈ ≡ putBytes h₇ 24 (le 4 (u + 12 * k)) → h₉ ≡ putBytes h₈ 28 (le 4 (u + 12 * k + 32))
       → h₉ ≡ putBytes l 0 fields
   fields-put l h₁ h₂ h₃ h₄ h₅ h₆ h₇ h₈ h₉ z e₁ e₂ e₃ e₄ e₅ e₆ e₇ e₈ e₉ =
@@ -100,7 +102,8 @@ module _ (e : Edition) (name : Name) (t k d u : ℕ) where
       (ap (λ (n : ℕ). replicate n 0) q ∙ sym (replicate-append-replicate (e .header - fieldsLength) (maxHeader - e .header) 0))
 
   pub header-put : Known e → (h₁ h₂ h₃ h₄ h₅ h₆ h₇ h₈ h₉ : Bytes)
-      → h₁ ≡ putBytes (replicate maxHeader 0) 0 (le 2 (e .number)) → h₂ ≡ putBytes h₁ 2 (le 2 t) → h₃ ≡ putBytes h₂ 4 (le 2 k) → h₄ ≡ putBytes h₃ 6 (le 2 d) → h₅ ≡ putBytes h₄ 8 (le 8 (name .«burst_number»))
+      → h₁ ≡ putBytes (replicate maxHeader 0) 0 (le 2 (e .number)) → h₂ ≡ putBytes h₁ 2 (le 2 t) → h₃ ≡ putBytes h₂ 4 (le 2 k) → h₄ ≡ putBytes h₃ 6 (le 2 d)
+      → h₅ ≡ putBytes h₄ 8 (le 8 (name .«burst_number»))
       → h₆ ≡ putBytes h₅ 16 (le 4 (e .header)) → h₇ ≡ putBytes h₆ 20 (le 4 u) → h₈ ≡ putBytes h₇ 24 (le 4 (u + 12 * k)) → h₉ ≡ putBytes h₈ 28 (le 4 (u + 12 * k + 32))
       → h₉ ≡ headerBytes e name t k d u ++ replicate (maxHeader - e .header) 0
   header-put w h₁ h₂ h₃ h₄ h₅ h₆ h₇ h₈ h₉ e₁ e₂ e₃ e₄ e₅ e₆ e₇ e₈ e₉ =

@@ -22,10 +22,6 @@ pub and-true : (a b : Bool) → (a && b) ≡ true → (a ≡ true) × (b ≡ tru
 and-true true b h = (refl, h)
 and-true false b h = (h, cc)
 
-pub both : (a b : Bool) → a ≡ true → b ≡ true → (a && b) ≡ true
-both true b h g = g
-both false b h g = h
-
 -- a test that cannot hold
 pub refuted : (b : Bool) → (b ≡ true → ⊥) → false ≡ b
 refuted true h = let x : ⊥ = h refl in elim x [ ]

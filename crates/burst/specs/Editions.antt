@@ -1,4 +1,5 @@
--- The editions of the burst file as rows of one table (01, "The burst file"): every number that an edition sets stands in its row and nowhere else. File, plain burst and front rules are said of any row; the recorder's calls are at the row that is written.
+-- The editions of the burst file as rows of one table (01, "The burst file"): every number that an edition sets stands in its row and nowhere else.
+-- File, plain burst and front rules are said of any row; the recorder's calls are at the row that is written.
 -- Assumes nothing.
 use mathlib.Core.Bool.{cond}
 use mathlib.Core.List.{List, [], _∷_, map}
@@ -7,13 +8,14 @@ use mathlib.Core.Path.{_≡_}
 use Prim.Native.Nat.{ℕ, _≤_, _<_, _^_}
 use lib.Dec.{eqb, leb}
 use Rattle.burst.specs.declared.Edition.{Edition}
+use Rattle.burst.specs.Fields.{countWidth, fieldsLength}
 
 -- a row: the number in the header, the bytes of the header, the most shots
 abbrev row : (number header shots : ℕ) → Edition
 row number header shots = record { number = number; header = header; shots = shots }
 
 abbrev pub edition1 : Edition
-edition1 = row 1 32 60
+edition1 = row 1 fieldsLength 60
 
 abbrev pub editions : List Edition
 editions = edition1 ∷ []
@@ -50,13 +52,9 @@ maxEntries = largest (map (λ (e : Edition). e .shots) editions)
 abbrev pub maxHeader : ℕ
 maxHeader = largest (map (λ (e : Edition). e .header) editions)
 
--- the header's nine fields, with which it starts in every edition, have so many bytes
-abbrev pub fieldsLength : ℕ
-fieldsLength = 32
-
 -- ---- what holds of every row: what code and proofs need of it
 pub record Known (e : Edition) : Type 0 where
-  pub number : e .number < 2 ^ 16
+  pub number : e .number < 256 ^ countWidth
   pub least : fieldsLength ≤ e .header
   pub header : e .header ≤ maxHeader
   pub shots : e .shots ≤ maxEntries

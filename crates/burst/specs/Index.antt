@@ -12,7 +12,8 @@ use Rattle.burst.specs.Numbers.{usedAfter}
 abbrev pub entryOf : (shot offset count : ℕ) → Entry
 entryOf shot offset count = record { shot = record { 0 = shot }; zeros = 0; offset = offset; length = count }
 
--- an entry that follows one of shot number `last`, and whose record is to stand at `offset`: shot numbers rise strictly within 1 to taken, zeros are zero, records touch, lengths are in range
+-- an entry that follows one of shot number `last`, and whose record is to stand at `offset`: shot numbers rise strictly within 1 to taken, zeros are
+-- zero, records touch, lengths are in range
 unfoldable pub entryRules : (last offset taken : ℕ) → Entry → Bool
 entryRules last offset taken e =
     ltb last (e .shot .0)

@@ -1,4 +1,4 @@
--- The burst file's pieces as bytes (01, "The burst file"). All numbers are little-endian.
+-- The burst file's pieces as bytes (01, "The burst file").
 -- Assumes nothing.
 use mathlib.Core.List.{[], _++_}
 use Prim.Native.Nat.{ℕ, _+_, _-_, _*_}
@@ -6,22 +6,19 @@ use lib.ListN.{length, replicate}
 use Rattle.bytes_le.specs.Bytes.{Bytes, le}
 use Rattle.burst.specs.declared.Edition.{Edition}
 use Rattle.burst.specs.declared.Name.{Name}
-use Rattle.burst.specs.Editions.{maxEntries, fieldsLength}
+use Rattle.burst.specs.Fields.{countWidth, offsetWidth, burstNumberWidth, fieldsLength, entryLength}
+use Rattle.burst.specs.Editions.{maxEntries}
 use Rattle.burst.specs.Parts.{sealLength, sealPart}
 
 -- a picture has 1 to so many bytes
 abbrev pub maxPicture : ℕ
 maxPicture = 1048576
 
--- bytes of an index entry
-abbrev pub entryLength : ℕ
-entryLength = 12
-
 -- bytes of the longest index
 abbrev pub maxIndex : ℕ
 maxIndex = entryLength * maxEntries
 
--- ---- what identifies a burst: what names it under its key, and the 16-byte site mark
+-- ---- what identifies a burst: what names it under its key, and the site mark
 pub record Identity : Type 0 where
   pub name : Name
   pub siteMark : Bytes
@@ -29,7 +26,7 @@ pub record Identity : Type 0 where
 -- ---- the pieces
 -- index entry: shot number, zero, record offset, picture length
 unfoldable pub entryBytes : ℕ → ℕ → ℕ → ℕ → Bytes
-entryBytes shot zeros offset count = le 2 shot ++ (le 2 zeros ++ (le 4 offset ++ le 4 count))
+entryBytes shot zeros offset count = le countWidth shot ++ (le countWidth zeros ++ (le offsetWidth offset ++ le offsetWidth count))
 
 -- the closing seal stands behind the index
 abbrev pub closingOffset : ℕ → ℕ → ℕ
@@ -42,14 +39,15 @@ headerRest e name = replicate (e .header - fieldsLength) 0
 -- header: edition, taken, kept, dropped, burst number, picture offset, index offset, closing offset, total length, and the rest
 unfoldable pub headerBytes : Edition → Name → (taken kept dropped indexOffset : ℕ) → Bytes
 headerBytes e name taken kept dropped indexOffset =
-    le 2 (e .number)
-    ++ (le 2 taken
-    ++ (le 2 kept
-    ++ (le 2 dropped
-    ++ (le 8 (name .«burst_number»)
-    ++ (le 4 (e .header)
-    ++ (le 4 indexOffset
-    ++ (le 4 (closingOffset indexOffset kept) ++ (le 4 (closingOffset indexOffset kept + sealLength) ++ headerRest e name))))))))
+    le countWidth (e .number)
+    ++ (le countWidth taken
+    ++ (le countWidth kept
+    ++ (le countWidth dropped
+    ++ (le burstNumberWidth (name .«burst_number»)
+    ++ (le offsetWidth (e .header)
+    ++ (le offsetWidth indexOffset
+    ++ (le offsetWidth (closingOffset indexOffset kept)
+    ++ (le offsetWidth (closingOffset indexOffset kept + sealLength) ++ headerRest e name))))))))
 
 -- record: the picture, marked with the stamp, and the index entry as associated data
 unfoldable pub recordBytes : Edition → (key : Bytes) (name : Name) (shot offset : ℕ) (stamp picture : Bytes) → Bytes

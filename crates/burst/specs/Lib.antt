@@ -1,3 +1,4 @@
+pub mod Fields
 pub mod Editions
 pub mod Parts
 pub mod Layout

@@ -1,4 +1,5 @@
--- The refusal numbers of the recorder's calls, from plain numbers (01, "Recorder" and "Turned down, by example"). The recorder and the plain burst use the same.
+-- The refusal numbers of the recorder's calls, from plain numbers (01, "Recorder" and "Turned down, by example"). The recorder and the plain burst use
+-- the same.
 -- Assumes nothing.
 use mathlib.Core.Bool.{Bool, not, _||_}
 use mathlib.Core.List.{[], _∷_}
@@ -6,7 +7,7 @@ use Prim.Native.Nat.{ℕ, _+_}
 use lib.Dec.{eqb, leb, ltb}
 use Rattle.icepole.specs.Answers.{refusal, _when_}
 use Rattle.burst.specs.declared.Edition.{Edition}
-use Rattle.burst.specs.Parts.{sealLength}
+use Rattle.burst.specs.Parts.{sealLength, keyLength, markLength}
 use Rattle.burst.specs.Layout.{maxPicture, closingOffset}
 
 -- bytes used after a picture of so many bytes
@@ -21,8 +22,8 @@ totalFrom used kept = closingOffset used kept + sealLength
 unfoldable pub beginNumber : Edition → (key siteMark buffer : ℕ) → ℕ
 beginNumber e key siteMark buffer =
     refusal
-    ((1 when not (eqb key 16))
-    ∷ (3 when not (eqb siteMark 16))
+    ((1 when not (eqb key keyLength))
+    ∷ (3 when not (eqb siteMark markLength))
     ∷ (11 when ltb buffer (totalFrom (e .header) 0))
     ∷ [])
 
@@ -31,7 +32,7 @@ unfoldable pub keepNumber : Edition → (sound : Bool) (taken kept used stamp pi
 keepNumber e sound taken kept used stamp picture buffer =
     refusal
     ((8 when not sound)
-    ∷ (3 when not (eqb stamp 16))
+    ∷ (3 when not (eqb stamp markLength))
     ∷ (9 when leb (e .shots) taken)
     ∷ (10 when (ltb picture 1 || ltb maxPicture picture))
     ∷ (11 when ltb buffer (totalFrom (usedAfter used picture) (kept + 1)))

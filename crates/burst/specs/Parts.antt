@@ -1,29 +1,40 @@
--- A sealed part of the burst file: a record, or the closing seal, which has shot number 0 (01, "The burst file"). It holds a mark of 16 bytes, which is the stamp or the site mark, and a body. (The mark that goes with a refusal number is another.) Here the cipher is chosen; recorder, reader and demand 3 name no variant.
+-- A sealed part of the burst file: a record, or the closing seal, which has shot number 0 (01, "The burst file"). It holds a mark, which is the stamp or
+-- the site mark, and a body. (The mark that goes with a refusal number is another.)
+-- Here the cipher is chosen; recorder, reader and demand 3 name no variant.
 -- Assumes nothing.
 use mathlib.Core.Bool.{Bool, cond}
 use mathlib.Core.List.{_++_}
-use Prim.Native.Nat.{ℕ, _-_, _<_, _^_}
+use Prim.Native.Nat.{ℕ, _+_, _-_, _<_, _^_}
 use lib.ListN.{length, replicate}
 use Rattle.bytes_le.specs.Bytes.{Bytes, le, putBytes}
 use Rattle.icepole.specs.declared.Opened.{Opened}
 use Rattle.icepole.specs.declared.Variant.the-variants.{Icepole128}
-use Rattle.icepole.specs.Variants.{sizes}
+use Rattle.icepole.specs.Variants.{sizes, tagLength}
 use Rattle.icepole.specs.Sealing.{sealed, secretOf, messageOf}
 use Rattle.icepole.specs.Answers.{tagAgrees, openedAnswer, unless}
 use Rattle.burst.specs.declared.Edition.{Edition}
 use Rattle.burst.specs.declared.Name.{Name}
+use Rattle.burst.specs.Fields.{countWidth, burstNumberWidth}
 
--- bytes by which sealing lengthens: the sealed secret number and the tag. A closing seal has no more
+-- bytes of the key
+abbrev pub keyLength : ℕ
+keyLength = sizes Icepole128 .key
+
+-- bytes of a mark: of a stamp, or of the site mark
+abbrev pub markLength : ℕ
+markLength = sizes Icepole128 .secret
+
+-- bytes by which sealing lengthens: the sealed mark and the tag. A closing seal has no more
 abbrev pub sealLength : ℕ
-sealLength = 32
+sealLength = markLength + tagLength
 
--- what the types of begin's arguments say of a name: a burst number has eight bytes, as in the header
+-- what the types of begin's arguments say of a name: a burst number fits its field
 abbrev pub Fits : Edition → Name → Type 0
-Fits e name = name .«burst_number» < 2 ^ 64
+Fits e name = name .«burst_number» < 256 ^ burstNumberWidth
 
 -- nonce: burst number, shot number, six zeros
 unfoldable pub nonceOf : Edition → Name → (shot : ℕ) → Bytes
-nonceOf e name shot = le 8 (name .«burst_number») ++ (le 2 shot ++ replicate 6 0)
+nonceOf e name shot = le burstNumberWidth (name .«burst_number») ++ (le countWidth shot ++ replicate 6 0)
 
 module _ (e : Edition) (key : Bytes) (name : Name) (shot : ℕ) where
   -- ---- sealing: ICEPOLE-128, with the mark as the secret number and the body as the message

@@ -14,6 +14,7 @@ use Rattle.burst.specs.declared.Closed.{Closed}
 use Rattle.burst.specs.declared.Edition.{Edition}
 use Rattle.burst.specs.declared.Name.{Name}
 use Rattle.burst.specs.Editions.{written, maxEntries}
+use Rattle.burst.specs.Parts.{keyLength, markLength}
 use Rattle.burst.specs.Layout.{Identity, headerBytes, recordBytes, closingSeal}
 use Rattle.burst.specs.Numbers.{usedAfter, totalFrom, beginNumber, keepNumber, dropNumber, closeNumber}
 use Rattle.burst.specs.Index.{entryOf, indexRules, indexBytes}
@@ -28,7 +29,8 @@ nameOf r = record { «burst_number» = r .«burst_number» }
 abbrev pub identityOf : Recorder → Identity
 identityOf r = record { name = nameOf r; siteMark = r .«site_mark» }
 
--- not closed, taken at most the edition's shots, kept at most taken, and the first kept entries obey the index rules and end at bytes used. Later entries are not looked at
+-- not closed, taken at most the edition's shots, kept at most taken, and the first kept entries obey the index rules and end at bytes used. Later
+-- entries are not looked at
 unfoldable pub isSound : Edition → Recorder → Bool
 isSound e r =
     not (r .closed)
@@ -52,7 +54,7 @@ newRecorder key i used closed = record {
 
 -- what a begin that is turned down returns: a closed recorder, otherwise zero
 unfoldable pub noRecorder : Recorder
-noRecorder = newRecorder (replicate 16 0) (record { name = record { «burst_number» = 0 }; siteMark = replicate 16 0 }) 0 true
+noRecorder = newRecorder (replicate keyLength 0) (record { name = record { «burst_number» = 0 }; siteMark = replicate markLength 0 }) 0 true
 
 module _ (key : Bytes) (i : Identity) (buffer : Bytes) where
   unfoldable pub beginRefusal : ℕ

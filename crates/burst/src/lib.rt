@@ -1,18 +1,23 @@
 // The burst file: its editions, its sealed parts, and the recorder (01, "The burst file", "Recorder").
+use icepole::KEY_BYTES;
 use icepole::KEY_LENGTH;
+use icepole::NONCE_BYTES;
 use icepole::Opened;
+use icepole::SECRET_BYTES;
 use icepole::SECRET_LENGTH;
+use icepole::TAG_BYTES;
 use icepole::Variant;
 ghost use mathlib.Core.Path.{_≡_};
 ghost use mathlib.Core.List.{_++_};
 ghost use Prim.Native.Nat.{_+_, _-_, _*_, _≤_, _<_, _^_};
 ghost use lib.ListN.{length, take, replicate};
 ghost use Rattle.bytes_le.specs.Bytes.{putBytes};
+ghost use Rattle.burst.specs.Fields.{offsetWidth, entryLength};
 ghost use Rattle.burst.specs.Editions.{Known, numbered, written, maxEntries, maxHeader};
-ghost use Rattle.burst.specs.Parts.{sealLength, nonceOf, sealPart, partAnswer, partOutput};
-ghost use Rattle.burst.specs.Layout.{entryLength, maxPicture, maxIndex, headerBytes, recordBytes, closingSeal};
+ghost use Rattle.burst.specs.Parts.{sealLength, nonceOf, sealPart, partAnswer, partOutput, keyLength, markLength};
+ghost use Rattle.burst.specs.Layout.{maxPicture, maxIndex, headerBytes, recordBytes, closingSeal};
 ghost use Rattle.burst.specs.Numbers.{beginNumber, keepNumber, dropNumber, closeNumber};
-ghost use Rattle.burst.specs.Index.{entryOf, entryRules, bytesOfEntry};
+ghost use Rattle.burst.specs.Index.{entryOf, entryRules, indexRules, bytesOfEntry};
 ghost use Rattle.burst.specs.Recorder.{editionOf, nameOf, identityOf, isSound, newRecorder, beginAnswer, beginBuffer, dropAnswer, afterKeep, keepAnswer, keepBuffer, recorderIndex, closeAnswer, closeBuffer};
 
 // A shot number (01): counts firings from 1.
@@ -34,6 +39,46 @@ pub const FRONT_BROKEN: u32 = 12;
 
 pub const NO_SUCH_PLACE: u32 = 13;
 
+// ---- the fields of header and index entry
+// Bytes of a count (an edition, a shot number, taken, kept, dropped), of an offset or a length, and of a burst number.
+pub const COUNT_WIDTH: usize = 2;
+
+pub const OFFSET_WIDTH: usize = 4;
+
+pub const BURST_NUMBER_WIDTH: usize = 8;
+
+// Where the header's nine fields stand, with which it starts in every edition.
+pub const EDITION_AT: usize = 0;
+
+pub const TAKEN_AT: usize = EDITION_AT + COUNT_WIDTH;
+
+pub const KEPT_AT: usize = TAKEN_AT + COUNT_WIDTH;
+
+pub const DROPPED_AT: usize = KEPT_AT + COUNT_WIDTH;
+
+pub const BURST_NUMBER_AT: usize = DROPPED_AT + COUNT_WIDTH;
+
+pub const PICTURE_OFFSET_AT: usize = BURST_NUMBER_AT + BURST_NUMBER_WIDTH;
+
+pub const INDEX_OFFSET_AT: usize = PICTURE_OFFSET_AT + OFFSET_WIDTH;
+
+pub const CLOSING_OFFSET_AT: usize = INDEX_OFFSET_AT + OFFSET_WIDTH;
+
+pub const TOTAL_AT: usize = CLOSING_OFFSET_AT + OFFSET_WIDTH;
+
+// They have so many bytes.
+pub const FIELDS_LENGTH: usize = TOTAL_AT + OFFSET_WIDTH;
+
+// Where an entry's fields stand, from its first byte on: the shot number at 0, then
+pub const ZEROS_AT: usize = COUNT_WIDTH;
+
+pub const RECORD_OFFSET_AT: usize = ZEROS_AT + COUNT_WIDTH;
+
+pub const PICTURE_LENGTH_AT: usize = RECORD_OFFSET_AT + OFFSET_WIDTH;
+
+pub const ENTRY_LENGTH: usize = PICTURE_LENGTH_AT + OFFSET_WIDTH;
+
+// ---- the editions
 // The facts of an edition: its number in the header, the bytes of its header, and its most shots.
 pub struct Edition {
     pub number: u16,
@@ -44,7 +89,7 @@ pub struct Edition {
 // Edition 1.
 const NUMBER_1: u16 = 1;
 
-const HEADER_1: u32 = 32;
+const HEADER_1: u32 = FIELDS_LENGTH as u32;
 
 const SHOTS_1: u16 = 60;
 
@@ -60,23 +105,21 @@ const EDITIONS: [Edition; EDITION_COUNT] = [Edition {
 // The number of the edition that the writer makes.
 const WRITTEN: u16 = NUMBER_1;
 
-// Bytes of the header's nine fields, with which it starts in every edition.
-pub const FIELDS_LENGTH: usize = 32;
-
 // Bytes of the longest header of any row.
 pub const MAX_HEADER: usize = HEADER_1 as usize;
 
 const MAX_PICTURE: u32 = 1048576;
-
-pub const ENTRY_LENGTH: usize = 12;
 
 // Entries of a recorder, the most shots of any row, and bytes of an index of so many entries.
 pub const MAX_ENTRIES: usize = SHOTS_1 as usize;
 
 pub const MAX_INDEX: usize = ENTRY_LENGTH * MAX_ENTRIES;
 
+// Bytes of a mark: of a stamp, or of the site mark.
+pub const MARK_BYTES: usize = SECRET_BYTES;
+
 // Bytes by which sealing lengthens, and bytes of a closing seal.
-pub const SEAL_LENGTH: u32 = 32;
+pub const SEAL_LENGTH: u32 = (MARK_BYTES + TAG_BYTES) as u32;
 
 // What names a burst under its key: its number.
 pub struct Name {
@@ -93,9 +136,9 @@ pub struct Entry {
 
 // What a burst is recorded with. Proofs reach the arrays by position: a new field goes behind `closed`.
 pub struct Recorder {
-    pub key: [u8; 16],
+    pub key: [u8; KEY_BYTES],
     pub burst_number: u64,
-    pub site_mark: [u8; 16],
+    pub site_mark: [u8; MARK_BYTES],
     // the latest shot, 0 before the first
     pub taken: Shot,
     // the next picture's place
@@ -106,7 +149,8 @@ pub struct Recorder {
     pub closed: bool,
 }
 
-// What the calls answer: a refusal number, 0 when done, its mark, and the rest, which is zero with a refusal. A refused keep, drop or close returns the recorder it was given, a refused begin a closed one, otherwise zero.
+// What the calls answer: a refusal number, 0 when done, its mark, and the rest, which is zero with a refusal. A refused keep, drop or close returns the
+// recorder it was given, a refused begin a closed one, otherwise zero.
 pub struct Begun {
     pub refusal: u32,
     pub mark: u32,
@@ -128,7 +172,7 @@ pub struct Closed {
 }
 
 // Whether an entry obeys the index rules, after one of shot number `last`, and with its record at `offset`.
-pub fn entry_ok(last: Shot, offset: u32, taken: Shot, x: Entry) -> bool
+fn entry_ok(last: Shot, offset: u32, taken: Shot, x: Entry) -> bool
     ensures { λ b. ⌜ b ≡ entryRules (last .0) offset (taken .0) x ⌝ }
 {
     let shot = x.shot;
@@ -148,6 +192,45 @@ pub fn entry_ok(last: Shot, offset: u32, taken: Shot, x: Entry) -> bool
         return false;
     }
     x.length <= MAX_PICTURE
+}
+
+// Whether the first entries, so many as are kept, obey the index rules: their records go from `start` to `end`.
+pub fn entries_ok(
+    entries: [Entry; MAX_ENTRIES],
+    kept: Place,
+    start: u32,
+    taken: Shot,
+    end: u32,
+) -> bool
+    requires { ⌜ (kept .0 ≤ maxEntries) × (start ≤ maxHeader) ⌝ }
+    ensures { λ b. ⌜ b ≡ indexRules 0 start (taken .0) end (take (kept .0) entries) ⌝ }
+{
+    let n = kept.0 as usize;
+    let mut i: usize = 0;
+    let mut last: u16 = 0;
+    let mut offset = start;
+    while i < n {
+        let x = entries[i];
+        if !entry_ok(Shot(last), offset, taken, x) {
+            return false;
+        }
+        offset = offset + x.length + SEAL_LENGTH;
+        last = x.shot.0;
+        i += 1;
+    }
+    offset == end
+}
+
+// An entry of zeros.
+pub fn no_entry() -> Entry
+    ensures { λ x. ⌜ x ≡ entryOf 0 0 0 ⌝ }
+{
+    Entry {
+        shot: Shot(0),
+        zeros: 0,
+        offset: 0,
+        length: 0,
+    }
 }
 
 // The row of an edition number; a number that no row has gives edition 1.
@@ -203,41 +286,30 @@ fn sound(e: Edition, r: Recorder) -> bool
     if r.kept.0 > r.taken.0 {
         return false;
     }
-    let n = r.kept.0 as usize;
-    let mut i: usize = 0;
-    let mut last: u16 = 0;
-    let mut offset = e.header;
-    while i < n {
-        let x = r.entries[i];
-        if !entry_ok(Shot(last), offset, r.taken, x) {
-            return false;
-        }
-        offset = offset + x.length + SEAL_LENGTH;
-        last = x.shot.0;
-        i += 1;
-    }
-    offset == r.used
+    let entries = r.entries;
+    entries_ok(entries, r.kept, e.header, r.taken, r.used)
 }
 
-// The 16 bytes of s.
-fn sixteen(s: &[u8]) -> [u8; 16]
-    requires { ⌜ length (now s) ≡ 16 ⌝ }
+// The bytes of a key or of a mark, which have as many.
+fn array_of(s: &[u8]) -> [u8; MARK_BYTES]
+    requires { ⌜ length (now s) ≡ markLength ⌝ }
     ensures { λ r. ⌜ r ≡ now (s .entry) ⌝ }
 {
-    let mut a = [0u8; 16];
+    let mut a = [0u8; MARK_BYTES];
     bytes_le::put_bytes(&mut a, 0, s);
     a
 }
 
-fn new_recorder(key: [u8; 16], name: Name, site_mark: [u8; 16], used: u32, closed: bool) -> Recorder
+fn new_recorder(
+    key: [u8; KEY_BYTES],
+    name: Name,
+    site_mark: [u8; MARK_BYTES],
+    used: u32,
+    closed: bool,
+) -> Recorder
     ensures { λ r. ⌜ r ≡ newRecorder key (record { name = name; siteMark = «site_mark» }) used closed ⌝ }
 {
-    let none = Entry {
-        shot: Shot(0),
-        zeros: 0,
-        offset: 0,
-        length: 0,
-    };
+    let none = no_entry();
     Recorder {
         key,
         burst_number: name.burst_number,
@@ -255,10 +327,10 @@ fn begin_number(e: Edition, key: usize, site_mark: usize, buffer: usize) -> u32
     requires { ⌜ Known e ⌝ }
     ensures { λ n. ⌜ n ≡ beginNumber e key «site_mark» buffer ⌝ }
 {
-    if key != 16 {
+    if key != KEY_BYTES {
         return KEY_LENGTH;
     }
-    if site_mark != 16 {
+    if site_mark != MARK_BYTES {
         return SECRET_LENGTH;
     }
     if buffer < (e.header + SEAL_LENGTH) as usize {
@@ -278,14 +350,20 @@ pub fn begin(key: &[u8], burst_number: u64, site_mark: &[u8], buffer: &mut [u8])
         return Begun {
             refusal: number,
             mark: 0,
-            recorder: new_recorder([0u8; 16], Name { burst_number: 0 }, [0u8; 16], 0, true),
+            recorder: new_recorder(
+                [0u8; KEY_BYTES],
+                Name { burst_number: 0 },
+                [0u8; MARK_BYTES],
+                0,
+                true,
+            ),
         };
     }
     let zeros = [0u8; MAX_HEADER];
     let n = e.header as usize;
     bytes_le::put_bytes(buffer, 0, &zeros[..n]);
-    let k = sixteen(key);
-    let m = sixteen(site_mark);
+    let k = array_of(key);
+    let m = array_of(site_mark);
     Begun {
         refusal: 0,
         mark: 0,
@@ -338,12 +416,12 @@ pub fn drop_shot(r: Recorder) -> ShotAnswer
 }
 
 // The nonce of a shot; shot number 0 is the closing seal's.
-fn nonce_of(e: Edition, name: Name, shot: Shot) -> [u8; 16]
+fn nonce_of(e: Edition, name: Name, shot: Shot) -> [u8; NONCE_BYTES]
     ensures { λ r. ⌜ r ≡ nonceOf e name (shot .0) ⌝ }
 {
-    let mut a = [0u8; 16];
-    let i = bytes_le::store_le(&mut a, 0, 8, name.burst_number);
-    bytes_le::store_le(&mut a, i, 2, shot.0 as u64);
+    let mut a = [0u8; NONCE_BYTES];
+    let i = bytes_le::store_le(&mut a, 0, BURST_NUMBER_WIDTH, name.burst_number);
+    bytes_le::store_le(&mut a, i, COUNT_WIDTH, shot.0 as u64);
     a
 }
 
@@ -360,8 +438,8 @@ fn seal_part(
     body: &[u8],
     out: &mut [u8],
 )
-    requires { ⌜ (length (now key) ≡ 16) × (length (now mark) ≡ 16) × (length (now first) + length (now second) ≤ maxHeader + maxIndex) × (length (now body) ≤ maxPicture)
-        × (length (now body) + sealLength ≤ length (now out)) ⌝ }
+    requires { ⌜ (length (now key) ≡ keyLength) × (length (now mark) ≡ markLength) × (length (now first) + length (now second) ≤ maxHeader + maxIndex)
+        × (length (now body) ≤ maxPicture) × (length (now body) + sealLength ≤ length (now out)) ⌝ }
     ensures { λ _. ⌜ now (out .exit) ≡ putBytes (now (out .entry)) 0
         (sealPart e (now (key .entry)) name (shot .0) (now (mark .entry)) (now (first .entry) ++ now (second .entry)) (now (body .entry))) ⌝ }
 {
@@ -388,7 +466,8 @@ pub fn verify_part(
     second: &[u8],
     sealed: &[u8],
 ) -> Opened
-    requires { ⌜ (length (now key) ≡ 16) × (length (now first) + length (now second) ≤ maxHeader + maxIndex) × (sealLength ≤ length (now sealed)) × (length (now sealed) ≤ maxPicture + sealLength) ⌝ }
+    requires { ⌜ (length (now key) ≡ keyLength) × (length (now first) + length (now second) ≤ maxHeader + maxIndex)
+        × (sealLength ≤ length (now sealed)) × (length (now sealed) ≤ maxPicture + sealLength) ⌝ }
     ensures { λ r. ⌜ r ≡ partAnswer e (now (key .entry)) name (shot .0) (now (first .entry) ++ now (second .entry)) (now (sealed .entry)) ⌝ }
 {
     let nonce = nonce_of(e, name, shot);
@@ -406,7 +485,8 @@ pub fn open_part(
     sealed: &[u8],
     out: &mut [u8],
 ) -> Opened
-    requires { ⌜ (length (now key) ≡ 16) × (length (now first) + length (now second) ≤ maxHeader + maxIndex) × (sealLength ≤ length (now sealed)) × (length (now sealed) ≤ maxPicture + sealLength)
+    requires { ⌜ (length (now key) ≡ keyLength) × (length (now first) + length (now second) ≤ maxHeader + maxIndex)
+        × (sealLength ≤ length (now sealed)) × (length (now sealed) ≤ maxPicture + sealLength)
         × (length (now sealed) ≤ length (now out) + sealLength) ⌝ }
     ensures { λ r. ⌜ (r ≡ partAnswer e (now (key .entry)) name (shot .0) (now (first .entry) ++ now (second .entry)) (now (sealed .entry)))
         × (now (out .exit) ≡ partOutput e (now (key .entry)) name (shot .0) (now (first .entry) ++ now (second .entry)) (now (sealed .entry)) (now (out .entry))) ⌝ }
@@ -421,10 +501,10 @@ fn put_entry(out: &mut [u8], at: usize, x: Entry) -> usize
     ensures { λ r. ⌜ (r ≡ at + entryLength) × (now (out .exit) ≡ putBytes (now (out .entry)) at (bytesOfEntry x)) ⌝ }
 {
     let s = x.shot;
-    let i = bytes_le::store_le(out, at, 2, s.0 as u64);
-    let j = bytes_le::store_le(out, i, 2, x.zeros as u64);
-    let k = bytes_le::store_le(out, j, 4, x.offset as u64);
-    bytes_le::store_le(out, k, 4, x.length as u64)
+    let i = bytes_le::store_le(out, at, COUNT_WIDTH, s.0 as u64);
+    let j = bytes_le::store_le(out, i, COUNT_WIDTH, x.zeros as u64);
+    let k = bytes_le::store_le(out, j, OFFSET_WIDTH, x.offset as u64);
+    bytes_le::store_le(out, k, OFFSET_WIDTH, x.length as u64)
 }
 
 fn entry_bytes(x: Entry) -> [u8; ENTRY_LENGTH]
@@ -443,7 +523,7 @@ fn keep_number(e: Edition, r: Recorder, stamp: usize, picture: usize, buffer: us
     if !sound(e, r) {
         return NOT_SOUND;
     }
-    if stamp != 16 {
+    if stamp != MARK_BYTES {
         return SECRET_LENGTH;
     }
     if r.taken.0 >= e.shots {
@@ -463,23 +543,25 @@ fn keep_number(e: Edition, r: Recorder, stamp: usize, picture: usize, buffer: us
     0
 }
 
-// The entry of a recorder's next picture.
-fn next_entry(r: Recorder, length: u32) -> Entry
+// The entry of a recorder's next picture, which has so many bytes.
+fn next_entry(r: Recorder, count: u32) -> Entry
     requires { ⌜ r .taken .0 < maxEntries ⌝ }
-    ensures { λ x. ⌜ x ≡ entryOf (r .taken .0 + 1) (r .used) length ⌝ }
+    ensures { λ x. ⌜ x ≡ entryOf (r .taken .0 + 1) (r .used) count ⌝ }
 {
     Entry {
         shot: Shot(r.taken.0 + 1),
         zeros: 0,
         offset: r.used,
-        length,
+        length: count,
     }
 }
 
 // Seals a recorder's next picture into the buffer, behind the records before it.
 fn put_record(e: Edition, r: Recorder, stamp: &[u8], picture: &[u8], buffer: &mut [u8])
-    requires { ⌜ (r .taken .0 < maxEntries) × (length (now stamp) ≡ 16) × (length (now picture) ≤ maxPicture) × (r .used + length (now picture) + sealLength ≤ length (now buffer)) ⌝ }
-    ensures { λ _. ⌜ now (buffer .exit) ≡ putBytes (now (buffer .entry)) (r .used) (recordBytes e (r .key) (nameOf r) (r .taken .0 + 1) (r .used) (now (stamp .entry)) (now (picture .entry))) ⌝ }
+    requires { ⌜ (r .taken .0 < maxEntries) × (length (now stamp) ≡ markLength) × (length (now picture) ≤ maxPicture)
+        × (r .used + length (now picture) + sealLength ≤ length (now buffer)) ⌝ }
+    ensures { λ _. ⌜ now (buffer .exit) ≡ putBytes (now (buffer .entry)) (r .used)
+        (recordBytes e (r .key) (nameOf r) (r .taken .0 + 1) (r .used) (now (stamp .entry)) (now (picture .entry))) ⌝ }
 {
     let x = next_entry(r, picture.len() as u32);
     let associated = entry_bytes(x);
@@ -500,14 +582,14 @@ fn put_record(e: Edition, r: Recorder, stamp: &[u8], picture: &[u8], buffer: &mu
 }
 
 // The recorder after a picture of so many bytes.
-fn with_picture(r: Recorder, length: u32) -> Recorder
-    requires { ⌜ (r .taken .0 < maxEntries) × (r .kept .0 < maxEntries) × (r .used + length + sealLength < 2 ^ 32) ⌝ }
-    ensures { λ n. ⌜ n ≡ afterKeep r length ⌝ }
+fn with_picture(r: Recorder, count: u32) -> Recorder
+    requires { ⌜ (r .taken .0 < maxEntries) × (r .kept .0 < maxEntries) × (r .used + count + sealLength < 256 ^ offsetWidth) ⌝ }
+    ensures { λ n. ⌜ n ≡ afterKeep r count ⌝ }
 {
-    let x = next_entry(r, length);
+    let x = next_entry(r, count);
     let place = r.kept.0 as usize;
     let kept = Place(r.kept.0 + 1);
-    let used = r.used + length + SEAL_LENGTH;
+    let used = r.used + count + SEAL_LENGTH;
     let shot = x.shot;
     let mut next = r;
     next.taken = shot;
@@ -547,23 +629,24 @@ pub fn index_length(kept: Place) -> usize
 
 // The header of a recorder's file, and zeros behind it.
 fn header_of(e: Edition, r: Recorder) -> [u8; MAX_HEADER]
-    requires { ⌜ Known e × (r .kept .0 ≤ r .taken .0) × (r .used + entryLength * r .kept .0 + sealLength < 2 ^ 32) ⌝ }
-    ensures { λ h. ⌜ h ≡ headerBytes e (nameOf r) (r .taken .0) (r .kept .0) (r .taken .0 - r .kept .0) (r .used) ++ replicate (maxHeader - e .header) 0 ⌝ }
+    requires { ⌜ Known e × (r .kept .0 ≤ r .taken .0) × (r .used + entryLength * r .kept .0 + sealLength < 256 ^ offsetWidth) ⌝ }
+    ensures { λ h. ⌜ h ≡ headerBytes e (nameOf r) (r .taken .0) (r .kept .0) (r .taken .0 - r .kept .0) (r .used)
+        ++ replicate (maxHeader - e .header) 0 ⌝ }
 {
     let taken = r.taken.0;
     let kept = r.kept.0;
     let index = r.used as u64;
     let closing = index + index_length(r.kept) as u64;
     let mut h = [0u8; MAX_HEADER];
-    bytes_le::store_le(&mut h, 0, 2, e.number as u64);
-    bytes_le::store_le(&mut h, 2, 2, taken as u64);
-    bytes_le::store_le(&mut h, 4, 2, kept as u64);
-    bytes_le::store_le(&mut h, 6, 2, (taken - kept) as u64);
-    bytes_le::store_le(&mut h, 8, 8, r.burst_number);
-    bytes_le::store_le(&mut h, 16, 4, e.header as u64);
-    bytes_le::store_le(&mut h, 20, 4, index);
-    bytes_le::store_le(&mut h, 24, 4, closing);
-    bytes_le::store_le(&mut h, 28, 4, closing + SEAL_LENGTH as u64);
+    bytes_le::store_le(&mut h, EDITION_AT, COUNT_WIDTH, e.number as u64);
+    bytes_le::store_le(&mut h, TAKEN_AT, COUNT_WIDTH, taken as u64);
+    bytes_le::store_le(&mut h, KEPT_AT, COUNT_WIDTH, kept as u64);
+    bytes_le::store_le(&mut h, DROPPED_AT, COUNT_WIDTH, (taken - kept) as u64);
+    bytes_le::store_le(&mut h, BURST_NUMBER_AT, BURST_NUMBER_WIDTH, r.burst_number);
+    bytes_le::store_le(&mut h, PICTURE_OFFSET_AT, OFFSET_WIDTH, e.header as u64);
+    bytes_le::store_le(&mut h, INDEX_OFFSET_AT, OFFSET_WIDTH, index);
+    bytes_le::store_le(&mut h, CLOSING_OFFSET_AT, OFFSET_WIDTH, closing);
+    bytes_le::store_le(&mut h, TOTAL_AT, OFFSET_WIDTH, closing + SEAL_LENGTH as u64);
     h
 }
 

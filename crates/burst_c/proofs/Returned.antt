@@ -10,16 +10,17 @@ use lib.Dec.{eqb, ltb}
 use lib.ListN.{length, take, drop, length-append, length-drop}
 use lib.Seq.{length-take-le}
 use Rattle.bytes_le.specs.Bytes.{Bytes, putBytes, le}
+use Rattle.burst.specs.Parts.{markLength}
 use Rattle.burst.proofs.Puts.{grow}
 use Rattle.reader.specs.declared.Checked.{Checked}
 use Rattle.reader.specs.declared.Fetched.{Fetched}
 use Rattle.reader.specs.Front.{entryAt, positionOf}
 use Rattle.reader.specs.Reader.{checkAnswer, recordRefusal, recordOffset, recordBytesIn, fetchRefusal, fetchAnswer, fetchOutput}
-use Rattle.reader.proofs.Answers.{Found, record-refused, record-done, fetch-stands}
-use Rattle.burst_c.specs.Calls.{checkedBytes, fetchedBytes, checkCallRefusal, checkCallInfo, fetchCallRefusal, fetchCallOutput, fetchCallInfo}
+use Rattle.reader.proofs.Answers.{Found, record-refused, record-done, fetch-stands, fetched-refusal}
+use Rattle.burst_c.specs.Calls.{checkInfoLength, checkedBytes, fetchInfoLength, fetchedBytes, checkCallRefusal, checkCallInfo, fetchCallRefusal, fetchCallOutput, fetchCallInfo}
 
 -- ---- the info's fields, one behind the other
-pub check-put : (l h₁ h₂ h₃ h₄ h₅ s : Bytes) (i₁ i₂ i₃ i₄ b t k d : ℕ) → 30 ≤ length l → length s ≡ 16
+pub check-put : (l h₁ h₂ h₃ h₄ h₅ s : Bytes) (i₁ i₂ i₃ i₄ b t k d : ℕ) → checkInfoLength ≤ length l → length s ≡ markLength
     → h₁ ≡ putBytes l 0 (le 8 b) → i₁ ≡ 0 + 8 → h₂ ≡ putBytes h₁ i₁ s → i₂ ≡ i₁ + length s → h₃ ≡ putBytes h₂ i₂ (le 2 t) → i₃ ≡ i₂ + 2
     → h₄ ≡ putBytes h₃ i₃ (le 2 k) → i₄ ≡ i₃ + 2 → h₅ ≡ putBytes h₄ i₄ (le 2 d)
     → h₅ ≡ putBytes l 0 (le 8 b ++ (s ++ (le 2 t ++ (le 2 k ++ le 2 d))))
@@ -36,7 +37,7 @@ check-put l h₁ h₂ h₃ h₄ h₅ s i₁ i₂ i₃ i₄ b t k d h hs e₁ g�
     ∙ append-assoc (le 8 b ++ s) (le 2 t) (le 2 k ++ le 2 d)
     ∙ append-assoc (le 8 b) s (le 2 t ++ (le 2 k ++ le 2 d)))
 
-pub fetch-put : (l h₁ h₂ h₃ s : Bytes) (i₁ i₂ n m : ℕ) → 22 ≤ length l → length s ≡ 16
+pub fetch-put : (l h₁ h₂ h₃ s : Bytes) (i₁ i₂ n m : ℕ) → fetchInfoLength ≤ length l → length s ≡ markLength
     → h₁ ≡ putBytes l 0 (le 2 n) → i₁ ≡ 0 + 2 → h₂ ≡ putBytes h₁ i₁ (le 4 m) → i₂ ≡ i₁ + 4 → h₃ ≡ putBytes h₂ i₂ s
     → h₃ ≡ putBytes l 0 (le 2 n ++ (le 4 m ++ s))
 fetch-put l h₁ h₂ h₃ s i₁ i₂ n m h hs e₁ g₁ e₂ g₂ e₃ =
@@ -55,16 +56,16 @@ module _ (key f info : Bytes) (c : Checked) (is : c ≡ checkAnswer key f) where
     none : checkAnswer key f .refusal ≡ 0
     none = number-is ∙ z
 
-    pub check-short : length info < 30 → (5 ≡ checkCallRefusal key f info) × (info ≡ checkCallInfo key f info)
+    pub check-short : length info < checkInfoLength → (5 ≡ checkCallRefusal key f info) × (info ≡ checkCallInfo key f info)
     unfolding checkCallInfo checkCallRefusal
-    check-short h = (sym (simp (none, lt-ltb (length info) 30 h)), sym (simp (none, lt-ltb (length info) 30 h)))
+    check-short h = (sym (simp (none, lt-ltb (length info) checkInfoLength h)), sym (simp (none, lt-ltb (length info) checkInfoLength h)))
 
-    pub check-done : 30 ≤ length info → (info′ : Bytes) → info′ ≡ putBytes info 0 (checkedBytes c)
+    pub check-done : checkInfoLength ≤ length info → (info′ : Bytes) → info′ ≡ putBytes info 0 (checkedBytes c)
         → (0 ≡ checkCallRefusal key f info) × (info′ ≡ checkCallInfo key f info)
     unfolding checkCallInfo checkCallRefusal
     check-done h info′ e = (
-      sym (simp (none, le-ltb (length info) 30 h)),
-      e ∙ ap (λ (x : Checked). putBytes info 0 (checkedBytes x)) is ∙ sym (simp (none, le-ltb (length info) 30 h)),
+      sym (simp (none, le-ltb (length info) checkInfoLength h)),
+      e ∙ ap (λ (x : Checked). putBytes info 0 (checkedBytes x)) is ∙ sym (simp (none, le-ltb (length info) checkInfoLength h)),
     )
 
 -- ---- fetch
@@ -80,17 +81,16 @@ module _ (key f : Bytes) (place : ℕ) (out info : Bytes) where
   unfolding fetchCallRefusal
   fetch-located num e h = stays num (simp (sym e, ne-eqb num 0 h)) h
 
-  pub fetch-short : recordRefusal key f place ≡ 0 → length info < 22 → Stays 5
+  pub fetch-short : recordRefusal key f place ≡ 0 → length info < fetchInfoLength → Stays 5
   unfolding fetchCallRefusal
-  fetch-short z h = stays 5 (simp (z, lt-ltb (length info) 22 h)) (λ e. omega arith)
+  fetch-short z h = stays 5 (simp (z, lt-ltb (length info) fetchInfoLength h)) (λ e. omega arith)
 
-  module _ (h : 22 ≤ length info) (r : Fetched) (is : r ≡ fetchAnswer key f place out) where
+  module _ (h : fetchInfoLength ≤ length info) (r : Fetched) (is : r ≡ fetchAnswer key f place out) where
     answer-number : fetchAnswer key f place out .refusal ≡ r .refusal
     answer-number = ap (λ (x : Fetched). x .refusal) (sym is)
 
-    fetch-number : fetchRefusal key f place out ≡ r .refusal
-    unfolding fetchAnswer
-    fetch-number = answer-number
+    fetch-refusal : fetchRefusal key f place out ≡ r .refusal
+    fetch-refusal = sym (fetched-refusal key f place out r is)
 
     -- a number, or 0
     whole : (n : ℕ) → cond (not (eqb n 0)) n 0 ≡ n
@@ -99,26 +99,26 @@ module _ (key f : Bytes) (place : ℕ) (out info : Bytes) where
 
     by-number : (m : ℕ) → recordRefusal key f place ≡ m → fetchCallRefusal key f place out info ≡ r .refusal
     unfolding fetchCallRefusal
-    by-number zero e = simp (e, le-ltb (length info) 22 h, answer-number) (whole (r .refusal))
+    by-number zero e = simp (e, le-ltb (length info) fetchInfoLength h, answer-number) (whole (r .refusal))
     by-number (suc m) e =
-        simp (e, ne-eqb (suc m) 0 (λ i. omega arith)) (sym (fetch-stands key f place out m e) ∙ fetch-number)
+        simp (e, ne-eqb (suc m) 0 (λ i. omega arith)) (sym (fetch-stands key f place out m e) ∙ fetch-refusal)
 
-    same-number : fetchCallRefusal key f place out info ≡ r .refusal
-    same-number = by-number (recordRefusal key f place) refl
+    same-refusal : fetchCallRefusal key f place out info ≡ r .refusal
+    same-refusal = by-number (recordRefusal key f place) refl
 
     pub fetch-refused : (r .refusal ≡ 0 → ⊥) → (out′ : Bytes) → out′ ≡ fetchOutput key f place out
         → (r .refusal ≡ fetchCallRefusal key f place out info) × (out′ ≡ fetchCallOutput key f place out info) × (info ≡ fetchCallInfo key f place out info)
     unfolding fetchOutput
     fetch-refused n out′ g =
-        let w = stays (r .refusal) same-number n in
-        let o : fetchOutput key f place out ≡ out = simp (fetch-number, ne-eqb (r .refusal) 0 n) in
+        let w = stays (r .refusal) same-refusal n in
+        let o : fetchOutput key f place out ≡ out = simp (fetch-refusal, ne-eqb (r .refusal) 0 n) in
         (w .0, g ∙ o ∙ w .1, w .2)
 
     pub fetch-done : r .refusal ≡ 0 → (out′ info′ : Bytes) → out′ ≡ fetchOutput key f place out → info′ ≡ putBytes info 0 (fetchedBytes r)
         → (0 ≡ fetchCallRefusal key f place out info) × (out′ ≡ fetchCallOutput key f place out info) × (info′ ≡ fetchCallInfo key f place out info)
     unfolding fetchCallOutput fetchCallInfo
     fetch-done z out′ info′ eo ei =
-        let e = same-number ∙ z in
+        let e = same-refusal ∙ z in
         (sym e, eo ∙ sym (simp e), ei ∙ ap (λ (x : Fetched). putBytes info 0 (fetchedBytes x)) is ∙ sym (simp e))
 
 -- ---- record

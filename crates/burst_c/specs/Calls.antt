@@ -2,7 +2,7 @@
 -- Assumes nothing.
 use mathlib.Core.Bool.{Bool, cond, not}
 use mathlib.Core.List.{List, [], _∷_, _++_}
-use Prim.Native.Nat.{ℕ}
+use Prim.Native.Nat.{ℕ, _+_, _*_, _-_, _^_}
 use lib.Dec.{eqb, ltb}
 use lib.ListN.{length}
 use Rattle.bytes_le.specs.Bytes.{Bytes, putBytes, le}
@@ -10,21 +10,25 @@ use Rattle.icepole.specs.Answers.{refusal, _when_, unless}
 use Rattle.reader.specs.declared.Checked.{Checked}
 use Rattle.reader.specs.declared.Fetched.{Fetched}
 use Rattle.reader.specs.Reader.{checkAnswer, recordRefusal, fetchAnswer, fetchOutput}
+use Rattle.burst.specs.Fields.{countWidth, offsetWidth, burstNumberWidth}
+use Rattle.burst.specs.Parts.{markLength}
 
 -- ---- the infos as bytes
 abbrev pub checkInfoLength : ℕ
-checkInfoLength = 30
+checkInfoLength = burstNumberWidth + (markLength + 3 * countWidth)
 
--- burst number (8), site mark (16), taken (2), kept (2), dropped (2)
+-- burst number, site mark, taken, kept, dropped
 abbrev pub checkedBytes : Checked → Bytes
-checkedBytes c = le 8 (c .«burst_number») ++ (c .«site_mark» ++ (le 2 (c .taken .0) ++ (le 2 (c .kept .0) ++ le 2 (c .dropped))))
+checkedBytes c =
+    le burstNumberWidth (c .«burst_number»)
+    ++ (c .«site_mark» ++ (le countWidth (c .taken .0) ++ (le countWidth (c .kept .0) ++ le countWidth (c .dropped))))
 
 abbrev pub fetchInfoLength : ℕ
-fetchInfoLength = 22
+fetchInfoLength = countWidth + (offsetWidth + markLength)
 
--- shot number (2), picture length (4), stamp (16)
+-- shot number, picture length, stamp
 abbrev pub fetchedBytes : Fetched → Bytes
-fetchedBytes r = le 2 (r .shot .0) ++ (le 4 (r .length) ++ r .stamp)
+fetchedBytes r = le countWidth (r .shot .0) ++ (le offsetWidth (r .length) ++ r .stamp)
 
 -- ---- check's numbers, then 5 for the info
 module _ (key f info : Bytes) where
@@ -38,9 +42,12 @@ module _ (key f info : Bytes) where
   unfoldable pub checkCallInfo : Bytes
   checkCallInfo = unless checkCallRefusal info (putBytes info 0 (checkedBytes (checkAnswer key f)))
 
--- ---- a place in 16 bits: what they do not hold becomes 65,535. No file has so many pictures, so that both are not below kept
+-- ---- a place as wide as a count: what that does not hold becomes the last, 65,535. No file has so many pictures, so that both are not below kept
+abbrev pub lastPlace : ℕ
+lastPlace = 256 ^ countWidth - 1
+
 abbrev pub placeOf : ℕ → ℕ
-placeOf place = cond (ltb 65535 place) 65535 place
+placeOf place = cond (ltb lastPlace place) lastPlace place
 
 -- ---- check's numbers and 13, then 5 for the info, then what is left of fetch's: 5 for the output
 module _ (key f : Bytes) (place : ℕ) (out info : Bytes) where

@@ -1,4 +1,8 @@
 // The C calls of include/burst.h.
+use burst::BURST_NUMBER_WIDTH;
+use burst::COUNT_WIDTH;
+use burst::MARK_BYTES;
+use burst::OFFSET_WIDTH;
 use burst::Place;
 use burst::SEAL_LENGTH;
 use icepole::OUTPUT_TOO_SHORT;
@@ -12,12 +16,12 @@ ghost use Rattle.bytes_le.specs.Bytes.{putBytes};
 ghost use Rattle.reader.specs.Reader.{checkMark, recordRefusal, recordOffset, recordBytesIn};
 ghost use Rattle.listing.specs.Listing.{listRefusal, listAnswer, listOutput};
 ghost use Rattle.replay.specs.Replay.{listOf, wholeScript, Replayed};
-ghost use Rattle.burst_c.specs.Calls.{checkedBytes, fetchedBytes, checkCallRefusal, checkCallInfo, placeOf, fetchCallRefusal, fetchCallOutput, fetchCallInfo};
+ghost use Rattle.burst_c.specs.Calls.{checkInfoLength, checkedBytes, fetchInfoLength, fetchedBytes, checkCallRefusal, checkCallInfo, placeOf, fetchCallRefusal, fetchCallOutput, fetchCallInfo};
 
 // Bytes of what check and fetch put into the info.
-const CHECK_INFO: usize = 30;
+const CHECK_INFO: usize = BURST_NUMBER_WIDTH + MARK_BYTES + 3 * COUNT_WIDTH;
 
-const FETCH_INFO: usize = 22;
+const FETCH_INFO: usize = COUNT_WIDTH + OFFSET_WIDTH + MARK_BYTES;
 
 // The largest place that 16 bits hold. No file has so many pictures.
 const LAST_PLACE: usize = 65535;
@@ -47,15 +51,15 @@ pub extern "C" fn burst_replay(
 }
 
 fn put_checked(c: Checked, info: &mut [u8])
-    requires { ⌜ 30 ≤ length (now info) ⌝ }
+    requires { ⌜ checkInfoLength ≤ length (now info) ⌝ }
     ensures { λ _. ⌜ now (info .exit) ≡ putBytes (now (info .entry)) 0 (checkedBytes c) ⌝ }
 {
     let site_mark = c.site_mark;
-    let i = bytes_le::store_le(info, 0, 8, c.burst_number);
+    let i = bytes_le::store_le(info, 0, BURST_NUMBER_WIDTH, c.burst_number);
     let j = bytes_le::put_bytes(info, i, &site_mark);
-    let k = bytes_le::store_le(info, j, 2, c.taken.0 as u64);
-    let l = bytes_le::store_le(info, k, 2, c.kept.0 as u64);
-    bytes_le::store_le(info, l, 2, c.dropped as u64);
+    let k = bytes_le::store_le(info, j, COUNT_WIDTH, c.taken.0 as u64);
+    let l = bytes_le::store_le(info, k, COUNT_WIDTH, c.kept.0 as u64);
+    bytes_le::store_le(info, l, COUNT_WIDTH, c.dropped as u64);
 }
 
 #[no_mangle]
@@ -88,13 +92,13 @@ fn place_of(place: usize) -> Place
 }
 
 fn put_fetched(r: Fetched, info: &mut [u8])
-    requires { ⌜ 22 ≤ length (now info) ⌝ }
+    requires { ⌜ fetchInfoLength ≤ length (now info) ⌝ }
     ensures { λ _. ⌜ now (info .exit) ≡ putBytes (now (info .entry)) 0 (fetchedBytes r) ⌝ }
 {
     let shot = r.shot;
     let stamp = r.stamp;
-    let i = bytes_le::store_le(info, 0, 2, shot.0 as u64);
-    let j = bytes_le::store_le(info, i, 4, r.length as u64);
+    let i = bytes_le::store_le(info, 0, COUNT_WIDTH, shot.0 as u64);
+    let j = bytes_le::store_le(info, i, OFFSET_WIDTH, r.length as u64);
     bytes_le::put_bytes(info, j, &stamp);
 }
 

@@ -15,9 +15,10 @@ use Rattle.bytes_le.specs.Bytes.{Bytes, AllBytes, le, unle, leAt}
 use Rattle.bytes_le.proofs.All.{all-take, all-drop}
 use Rattle.burst.specs.declared.Edition.{Edition}
 use Rattle.burst.specs.declared.Name.{Name}
-use Rattle.burst.specs.Editions.{fieldsLength, Known}
-use Rattle.burst.specs.Parts.{sealLength, sealPart, partMark, partBody}
-use Rattle.burst.specs.Layout.{Identity, headerRest, entryBytes, headerBytes, recordBytes, closingSeal}
+use Rattle.burst.specs.Fields.{fieldsLength}
+use Rattle.burst.specs.Editions.{Known}
+use Rattle.burst.specs.Parts.{sealLength, sealPart, partMark, partBody, markLength}
+use Rattle.burst.specs.Layout.{Identity, headerRest, entryBytes, headerBytes, recordBytes, closingSeal, maxPicture}
 use Rattle.burst.specs.Index.{indexRules}
 use Rattle.trace.specs.Plain.{Firing, kept, gap, pictures, gaps, usedBy, records, index, Plain, headerOf, indexOf, fileOf, byValue, Call, keepShot, dropShot, closeBurst, CallList, numberOf, accepted, afterCall, afterCalls, begun, plainOf, beginNumberOf}
 use Rattle.burst.proofs.Rows.{numbered-among}
@@ -30,10 +31,10 @@ use Rattle.reader.specs.Front.{editionIn, nameIn, allZero, restRules, takenIn, 
 use Rattle.reader.specs.Reader.{closingPart, recordPart, recordParts, agrees, markIn, bodyIn, verdictOn, checkRefusal, checkAnswer}
 use Rattle.reader.proofs.Rules.{Front, entries-obey, entries-end}
 use Rattle.reader.proofs.Parts.{first-agrees}
-use Rattle.reader.proofs.Answers.{Accepted, accepted as obeyed}
+use Rattle.reader.proofs.Answers.{Accepted, accepted as obeyed, checked-refusal}
 use Rattle.trace.proofs.Shots.{Valid, pictures-gaps, pictures-append, used-least, used-append}
 use Rattle.trace.proofs.Agreement.{with}
-use Rattle.claims.specs.Demand3.{Slice, TypedCalls, Genuine, Accepts, GivenBack, burstIn, Reads, nameGiven}
+use Rattle.claims.specs.Demand3.{sliceBound, Slice, TypedCalls, Genuine, Accepts, GivenBack, burstIn, Reads, nameGiven}
 use Rattle.claims.proofs.Lists.{fine}
 use Rattle.claims.proofs.Back.{gives-back}
 
@@ -139,7 +140,7 @@ module _ (key f : Bytes) (fb : AllBytes f) (taken end : ℕ) (he : end ≤ lengt
     pub bytes : ShotBytes xs
 
   record OneRecord (pos n at : ℕ) : Type 0 where
-    pub stamp : length (stampAt pos) ≡ 16
+    pub stamp : length (stampAt pos) ≡ markLength
     pub picture : length (pictureIn pos) ≡ sizeAt pos
     pub entry : entryBytes n 0 at (sizeAt pos) ≡ take 12 (drop pos f)
     pub record-is : recordBytes (editionIn f) key (nameIn f) n at (stampAt pos) (pictureIn pos) ≡ take (sizeAt pos + 32) (drop at f)
@@ -252,7 +253,7 @@ callsOf [] = closeBurst ∷ []
 callsOf (kept s p ∷ xs) = keepShot s p ∷ callsOf xs
 callsOf (gap ∷ xs) = dropShot byValue ∷ callsOf xs
 
-slice : (b : Bytes) → AllBytes b → length b ≤ 1048576 → Slice b
+slice : (b : Bytes) → AllBytes b → length b ≤ maxPicture → Slice b
 slice b h s = record { bytes = h; size = omega arith }
 
 typed-calls : (xs : List Firing) → ShotBytes xs → Valid xs → TypedCalls (callsOf xs)
@@ -269,7 +270,8 @@ module _ (ed : Edition) (q : Plain) (n : ℕ) where
   unfolding afterCall numberOf accepted
   drop-yes ys h = simp (sym (drop-0 ed true (length ys) refl h))
 
-  keep-yes : (ys : List Firing) (s p : Bytes) → length s ≡ 16 → length ys < ed .shots → 1 ≤ length p → length p ≤ 1048576 → usedBy (ed .header) ys + length p + 32 + 12 * (pictures ys + 1) + 32 ≤ n
+  keep-yes : (ys : List Firing) (s p : Bytes) → length s ≡ markLength → length ys < ed .shots → 1 ≤ length p → length p ≤ maxPicture
+      → usedBy (ed .header) ys + length p + 32 + 12 * (pictures ys + 1) + 32 ≤ n
       → afterCall ed n (with q ys false) (keepShot s p) ≡ with q (ys ++ (kept s p ∷ [])) false
   unfolding afterCall numberOf accepted
   keep-yes ys s p h₁ h₂ h₃ h₄ h₅ = simp (sym (keep-0 ed true (length ys) (pictures ys) (usedBy (ed .header) ys) (length s) (length p) n refl h₁ h₂ h₃ h₄ h₅))
@@ -284,14 +286,18 @@ module _ (ed : Edition) (q : Plain) (n : ℕ) where
       let e₂ : pictures (ys ++ (kept s p ∷ [])) ≡ pictures ys + 1 = pictures-append ys (kept s p ∷ []) in
       let e₃ : length (ys ++ (kept s p ∷ [])) ≡ length ys + 1 = length-append ys (kept s p ∷ []) in
       let h₁ : usedBy (usedBy (ed .header) (ys ++ (kept s p ∷ []))) xs + 12 * (pictures (ys ++ (kept s p ∷ [])) + pictures xs) + 32 ≤ n = rw (e₁, e₂) (omega arith) in
-      ap (λ (r : Plain). afterCalls ed n r (callsOf xs)) e ∙ runs xs (ys ++ (kept s p ∷ [])) (v .1) (omega arith) h₁ ∙ ap (λ (zs : List Firing). with q zs true) (append-assoc ys (kept s p ∷ []) xs)
+      ap (λ (r : Plain). afterCalls ed n r (callsOf xs)) e
+      ∙ runs xs (ys ++ (kept s p ∷ [])) (v .1) (omega arith) h₁
+      ∙ ap (λ (zs : List Firing). with q zs true) (append-assoc ys (kept s p ∷ []) xs)
   runs (gap ∷ xs) ys v l h =
       let e = drop-yes ys (omega arith) in
       let e₁ : usedBy (ed .header) (ys ++ (gap ∷ [])) ≡ usedBy (ed .header) ys = used-append (ed .header) ys (gap ∷ []) in
       let e₂ : pictures (ys ++ (gap ∷ [])) ≡ pictures ys + 0 = pictures-append ys (gap ∷ []) in
       let e₃ : length (ys ++ (gap ∷ [])) ≡ length ys + 1 = length-append ys (gap ∷ []) in
       let h₁ : usedBy (usedBy (ed .header) (ys ++ (gap ∷ []))) xs + 12 * (pictures (ys ++ (gap ∷ [])) + pictures xs) + 32 ≤ n = rw (e₁, e₂) (omega arith) in
-      ap (λ (r : Plain). afterCalls ed n r (callsOf xs)) e ∙ runs xs (ys ++ (gap ∷ [])) v (omega arith) h₁ ∙ ap (λ (zs : List Firing). with q zs true) (append-assoc ys (gap ∷ []) xs)
+      ap (λ (r : Plain). afterCalls ed n r (callsOf xs)) e
+      ∙ runs xs (ys ++ (gap ∷ [])) v (omega arith) h₁
+      ∙ ap (λ (zs : List Firing). with q zs true) (append-assoc ys (gap ∷ []) xs)
 
 -- ---- a header's bytes
 zeros-are : (l : Bytes) → allZero l ≡ true → l ≡ replicate (length l) 0
@@ -302,7 +308,8 @@ rest-bytes : (f : Bytes) (e : Edition) (name : Name) → Known e → e .header �
 unfolding restRules headerRest
 rest-bytes f e name k h z =
     let g = k .least in
-    let l : length (drop fieldsLength (take (e .header) f)) ≡ e .header - fieldsLength = length-drop fieldsLength (take (e .header) f) ∙ ap (λ (n : ℕ). n - fieldsLength) (length-take-le (e .header) f h) in
+    let l : length (drop fieldsLength (take (e .header) f)) ≡ e .header - fieldsLength =
+    length-drop fieldsLength (take (e .header) f) ∙ ap (λ (n : ℕ). n - fieldsLength) (length-take-le (e .header) f h) in
     sym (take-append-drop fieldsLength (take (e .header) f))
     ∙ ap₂ (λ (x y : Bytes). x ++ y) (take-take fieldsLength (e .header) f g) (zeros-are _ z ∙ ap (λ (n : ℕ). replicate n 0) l)
 
@@ -331,7 +338,8 @@ header-bytes e known name f fb h z t k d u e₀ e₁ e₂ e₃ e₄ e₅ e₆ e�
     let p₅ = next 4 16 12 in
     let p₆ = next 4 20 8 in
     let p₇ = next 4 24 4 in
-    let fixed : le 2 (e .number) ++ (le 2 t ++ (le 2 k ++ (le 2 d ++ (le 8 n ++ (le 4 (e .header) ++ (le 4 u ++ (le 4 (u + 12 * k) ++ le 4 (u + 12 * k + 32)))))))) ≡ take fieldsLength f =
+    let fixed : le 2 (e .number) ++
+    (le 2 t ++ (le 2 k ++ (le 2 d ++ (le 8 n ++ (le 4 (e .header) ++ (le 4 u ++ (le 4 (u + 12 * k) ++ le 4 (u + 12 * k + 32)))))))) ≡ take fieldsLength f =
     cc (g₀, g₁, g₂, g₃, g₄, g₅, g₆, g₇, g₈, p₀, p₁, p₂, p₃, p₄, p₅, p₆, p₇) in
     ap (λ (r : Bytes). r ++ headerRest e name) fixed ∙ sym rb
   where
@@ -385,7 +393,7 @@ module _ (key f : Bytes) (kb : AllBytes key) (fb : AllBytes f) (ok : Accepted ke
   abbrev c : Bytes
   c = take (0 + 32) (drop (i + 12 * k) f)
 
-  site16 : length m ≡ 16
+  site16 : length m ≡ markLength
   unfolding markIn
   site16 = length-mark (editionIn f) key (nameIn f) 0 ad c (let w = last-length in omega arith)
 
@@ -429,7 +437,8 @@ module _ (key f : Bytes) (kb : AllBytes key) (fb : AllBytes f) (ok : Accepted ke
       let b = made in
       let g : gaps xs ≡ droppedIn f = let c₁ = b .kept in let c₂ = b .size in let c₃ = fr .counts in let c₄ = pictures-gaps xs in omega arith in
       let e : headerBytes (editionIn f) (nameIn f) (takenIn f) k (droppedIn f) i ≡ take (editionIn f .header) f =
-      header-bytes (editionIn f) (fr .known) (nameIn f) f fb (let a = fr .least in omega arith) (fr .rest) (takenIn f) k (droppedIn f) i (fr .edition) refl refl refl refl (fr .pictures) refl (fr .closing)
+      header-bytes (editionIn f) (fr .known) (nameIn f) f fb (let a = fr .least in omega arith) (fr .rest) (takenIn f) k (droppedIn f) i
+      (fr .edition) refl refl refl refl (fr .pictures) refl (fr .closing)
       (fr .total ∙ ap (λ (n : ℕ). n + 32) (fr .closing)) in
       cc (b .size, b .kept, g, b .ends, e)
 
@@ -444,14 +453,17 @@ module _ (key f : Bytes) (kb : AllBytes key) (fb : AllBytes f) (ok : Accepted ke
       let e₃ : records (editionIn f) key (nameIn f) 1 (editionIn f .header) xs ≡ take (i - editionIn f .header) (drop (editionIn f .header) f) = b .recorded in
       let cl : sealPart (editionIn f) key (nameIn f) 0 m (hd ++ ix) [] ≡ drop (i + 12 * k) f =
       ap₂ (λ (x y : Bytes). sealPart (editionIn f) key (nameIn f) 0 m (x ++ y) []) e₁ e₂ ∙ closing-is in
-      let d₁ : take (12 * k) (drop i f) ++ drop (i + 12 * k) f ≡ drop i f = ap (λ (r : Bytes). take (12 * k) (drop i f) ++ r) (sym (drop-drop (12 * k) i f)) ∙ take-append-drop (12 * k) (drop i f) in
-      let q : editionIn f .header + (i - editionIn f .header) ≡ i = let a = at-most key f fb (takenIn f) i within k i 0 (editionIn f .header) (fr .index) in omega arith in
-      let d₂ : take (i - editionIn f .header) (drop (editionIn f .header) f) ++ drop i f ≡ drop (editionIn f .header) f =
-      ap (λ (r : Bytes). take (i - editionIn f .header) (drop (editionIn f .header) f) ++ r) (ap (λ (n : ℕ). drop n f) (sym q) ∙ sym (drop-drop (i - editionIn f .header) (editionIn f .header) f)) ∙ take-append-drop (i - editionIn f .header) (drop (editionIn f .header) f) in
+      let d₁ : take (12 * k) (drop i f) ++ drop (i + 12 * k) f ≡ drop i f =
+      ap (λ (r : Bytes). take (12 * k) (drop i f) ++ r) (sym (drop-drop (12 * k) i f)) ∙ take-append-drop (12 * k) (drop i f) in
+      let n = editionIn f .header in
+      let q : n + (i - n) ≡ i = let a = at-most key f fb (takenIn f) i within k i 0 n (fr .index) in omega arith in
+      let d₂ : take (i - n) (drop n f) ++ drop i f ≡ drop n f =
+      ap (λ (r : Bytes). take (i - n) (drop n f) ++ r) (ap (λ (j : ℕ). drop j f) (sym q) ∙ sym (drop-drop (i - n) n f))
+      ∙ take-append-drop (i - n) (drop n f) in
       let d₃ : take (editionIn f .header) f ++ drop (editionIn f .header) f ≡ f = take-append-drop (editionIn f .header) f in
       cc (e₁, e₂, e₃, cl, d₁, d₂, d₃)
 
-  short : length f < 2 ^ 63
+  short : length f < sliceBound
   short = let kn = fr .known in let s = fr .size in let a = fr .least in let u = less-at f fb 4 28 (omega arith) in omega arith
 
   pub file-of : Genuine key f
@@ -473,13 +485,9 @@ module _ (key f : Bytes) (kb : AllBytes key) (fb : AllBytes f) (ok : Accepted ke
     file = ap (fileOf (editionIn f)) plain-is ∙ file-is;
   }
 
-check-number : (key f : Bytes) → checkAnswer key f .refusal ≡ checkRefusal key f
-unfolding checkAnswer
-check-number key f = refl
-
 pub accepts : Accepts
 accepts key f kb fb = (
-  λ h. file-of key f kb fb (obeyed key f (sym (check-number key f) ∙ h)),
+  λ h. file-of key f kb fb (obeyed key f (sym (checked-refusal key f _ refl) ∙ h)),
   λ w.
       let ed = w .edition in
       let e : checkAnswer (w .list .key) (fileOf ed (plainOf ed (w .list))) .refusal ≡ 0 =

@@ -16,7 +16,7 @@ use Rattle.burst.specs.declared.Entry.{Entry}
 use Rattle.burst.specs.declared.Edition.{Edition}
 use Rattle.burst.specs.declared.Name.{Name}
 use Rattle.burst.specs.Editions.{maxEntries, numbered, Known}
-use Rattle.burst.specs.Parts.{Fits, partAgrees, partMark}
+use Rattle.burst.specs.Parts.{Fits, partAgrees, partMark, keyLength, markLength}
 use Rattle.burst.specs.Layout.{maxPicture, Identity, headerBytes, recordBytes, closingSeal}
 use Rattle.burst.specs.Index.{indexRules}
 use Rattle.trace.specs.Plain.{Firing, kept, gap, pictures, gaps, usedBy, records, index, Plain, headerOf, indexOf, fileOf, CallList, plainOf}
@@ -27,9 +27,9 @@ use Rattle.reader.specs.declared.Checked.{Checked}
 use Rattle.reader.specs.declared.Verdict.the-variants.{Agree}
 use Rattle.reader.specs.declared.Fetched.{Fetched}
 use Rattle.reader.specs.Front.{editionIn, nameIn, headerIn, takenIn, keptIn, indexOffsetIn, entryAt, entriesAt, positionOf, frontRules}
-use Rattle.reader.specs.Reader.{closingPart, recordParts, agrees, markIn, verdictOn, checkRefusal, checkMark, checkAnswer, recordRefusal, recordOffset, recordBytesIn, notChecked, notFetched, fetchRefusal, fetchAnswer, fetchOutput}
+use Rattle.reader.specs.Reader.{closingPart, recordParts, sealedIn, agrees, markIn, verdictOn, checkRefusal, checkMark, checkAnswer, recordRefusal, recordOffset, recordBytesIn, notChecked, notFetched, fetchRefusal, fetchAnswer, fetchOutput}
 use Rattle.reader.proofs.Rules.{front-is, front-at}
-use Rattle.reader.proofs.Answers.{check-not, check-zero, check-0, Found, found, record-zero, record-refused, record-done, fetch-0, fetch-not, fetch-refused}
+use Rattle.reader.proofs.Answers.{check-not, check-zero, check-0, checked-refusal, checked-mark, fetched-refusal, Found, found, record-zero, record-refused, record-done, fetch-0, fetch-not, fetch-refused}
 use Rattle.trace.specs.Agreement.{editionFor}
 use Rattle.trace.proofs.Agreement.{agreement}
 use Rattle.trace.proofs.Shots.{Valid, pictures-gaps, used-least, used-most, length-index, length-records, length-closing, sound-entries}
@@ -38,8 +38,8 @@ use Rattle.claims.proofs.Lists.{fine, zero-or-not}
 use Rattle.claims.proofs.Reading.{HeaderIn, header-in, entries-read, records-agree, Placed, placed, every, below}
 
 -- ---- the file of a plain burst
-module _ (ed : Edition) (known-ed : Known ed) (p : Plain) (valid : Valid (p .shots)) (most : length (p .shots) ≤ ed .shots) (key16 : length (p .key) ≡ 16) (site16 : length (p .identity .siteMark) ≡ 16)
-    (fits : Fits ed (p .identity .name)) where
+module _ (ed : Edition) (known-ed : Known ed) (p : Plain) (valid : Valid (p .shots)) (most : length (p .shots) ≤ ed .shots)
+    (key16 : length (p .key) ≡ keyLength) (site16 : length (p .identity .siteMark) ≡ markLength) (fits : Fits ed (p .identity .name)) where
   abbrev xs : List Firing
   xs = p .shots
 
@@ -116,7 +116,8 @@ module _ (ed : Edition) (known-ed : Known ed) (p : Plain) (valid : Valid (p .sho
       (h .total ∙ ap (λ (i : ℕ). i + 32) (sym (h .closing))) (h .total ∙ sym lf) (h .others))
       ∙ ap₂ (λ (i k : ℕ). indexRules 0 (ed .header) (takenIn f) i (entriesAt k i f)) (h .index) (h .kept)
       ∙ ap (λ (t : ℕ). indexRules 0 (ed .header) t u (entriesAt (pictures xs) u f)) (h .taken)
-      ∙ ap (indexRules 0 (ed .header) (length xs) u) (entries-read f (p .key) (length xs) u few (let c = bound in omega arith) xs 1 (ed .header) u cl valid (omega arith) refl indexed)
+      ∙ ap (indexRules 0 (ed .header) (length xs) u)
+      (entries-read f (p .key) (length xs) u few (let c = bound in omega arith) xs 1 (ed .header) u cl valid (omega arith) refl indexed)
       ∙ sound-entries xs 1 (ed .header) 0 (length xs) u valid (omega arith) (omega arith) refl
 
   closing-opens : (agrees (p .key) f (closingPart f) ≡ true) × (markIn (p .key) f (closingPart f) ≡ p .identity .siteMark)
@@ -125,16 +126,17 @@ module _ (ed : Edition) (known-ed : Known ed) (p : Plain) (valid : Valid (p .sho
       let k = p .key in
       let n = p .identity .name in
       let m = p .identity .siteMark in
-      let e₁ : take (editionIn f .header) f ++ take (12 * keptIn f) (drop (indexOffsetIn f) f) ≡ hd ++ ix =
+      let ad = closingPart f .associated in
+      let e₁ : ad ≡ hd ++ ix =
       ap₂ (λ (a : Bytes) (n : ℕ). a ++ take (12 * n) (drop (indexOffsetIn f) f)) (ap (λ (x : Edition). take (x .header) f) row ∙ headed .header) (headed .kept)
       ∙ ap (λ (i : ℕ). hd ++ take (12 * pictures xs) (drop i f)) (headed .index) ∙ ap (λ (a : Bytes). hd ++ a) indexed-bytes in
-      let e₂ : take (0 + 32) (drop (indexOffsetIn f + 12 * keptIn f) f) ≡ cl =
+      let e₂ : sealedIn k f (closingPart f) ≡ cl =
       ap₂ (λ (i n : ℕ). take (0 + 32) (drop (i + 12 * n) f)) (headed .index) (headed .kept)
       ∙ ap (take (0 + 32)) (closed-at ∙ sym (append-nil cl)) ∙ take-at cl [] (0 + 32) length-cl in (
-        ap₂ (λ (x : Edition) (y : Name). partAgrees x k y 0 (take (editionIn f .header) f ++ take (12 * keptIn f) (drop (indexOffsetIn f) f)) (take (0 + 32) (drop (indexOffsetIn f + 12 * keptIn f) f))) row (headed .named)
+        ap₂ (λ (x : Edition) (y : Name). partAgrees x k y 0 ad (sealedIn k f (closingPart f))) row (headed .named)
             ∙ ap₂ (partAgrees ed k n 0) e₁ e₂
             ∙ part-agrees ed k n 0 m (hd ++ ix) [] site16,
-        ap₂ (λ (x : Edition) (y : Name). partMark x k y 0 (take (editionIn f .header) f ++ take (12 * keptIn f) (drop (indexOffsetIn f) f)) (take (0 + 32) (drop (indexOffsetIn f + 12 * keptIn f) f))) row (headed .named)
+        ap₂ (λ (x : Edition) (y : Name). partMark x k y 0 ad (sealedIn k f (closingPart f))) row (headed .named)
             ∙ ap₂ (partMark ed k n 0) e₁ e₂
             ∙ part-mark ed k n 0 m (hd ++ ix) [] site16,
       )
@@ -147,7 +149,15 @@ module _ (ed : Edition) (known-ed : Known ed) (p : Plain) (valid : Valid (p .sho
   accepted : checkRefusal (p .key) f ≡ 0
   accepted = check-zero (p .key) f key16 front-holds (closing-opens .0) records-open
 
-  checked : checkAnswer (p .key) f ≡ record { refusal = 0; mark = 0; «burst_number» = p .identity .name .«burst_number»; «site_mark» = p .identity .siteMark; taken = record { 0 = length xs }; kept = record { 0 = pictures xs }; dropped = gaps xs }
+  checked : checkAnswer (p .key) f ≡ record {
+    refusal = 0;
+    mark = 0;
+    «burst_number» = p .identity .name .«burst_number»;
+    «site_mark» = p .identity .siteMark;
+    taken = record { 0 = length xs };
+    kept = record { 0 = pictures xs };
+    dropped = gaps xs;
+  }
   checked =
       sym (check-0 (p .key) f key16 front-holds (closing-opens .0) records-open (headerIn f) refl (markIn (p .key) f (closingPart f)) refl)
       ∙ cc (ap (λ (n : Name). n .«burst_number») (headed .named), headed .taken, headed .kept, headed .dropped, closing-opens .1)
@@ -190,7 +200,7 @@ module _ (ed : Edition) (known-ed : Known ed) (p : Plain) (valid : Valid (p .sho
 
   -- behind the last place nothing is given
   no-more : (place : ℕ) (out : Bytes) → pictures xs ≤ place → fetchAnswer (p .key) f place out .refusal ≡ 0 → ⊥
-  unfolding fetchAnswer fetchRefusal
+  unfolding fetchAnswer fetchRefusal recordRefusal
   no-more place out h z =
       let k = headed .kept in
       let e : fetchRefusal (p .key) f place out ≡ 13 = simp (accepted, le-leb (keptIn f) place (omega arith)) in
@@ -218,7 +228,8 @@ module _ (key f : Bytes) where
     pub outputs : (j : ℕ) (w : Picture) → pictureAt n at xs j ≡ some w → fetchOutput key f (place + j) whole ≡ putBytes whole 0 (w .picture)
     pub ends : (j : ℕ) → pictures xs ≤ j → fetchAnswer key f (place + j) whole .refusal ≡ 0 → ⊥
 
-  read-kept : (left n place : ℕ) (w : Picture) → fetchAnswer key f place whole ≡ answer w → fetchOutput key f place whole ≡ putBytes whole 0 (w .picture) → w .shot ≡ n → length (w .picture) ≤ maxPicture
+  read-kept : (left n place : ℕ) (w : Picture) → fetchAnswer key f place whole ≡ answer w → fetchOutput key f place whole ≡ putBytes whole 0 (w .picture) → w .shot ≡ n
+      → length (w .picture) ≤ maxPicture
       → readFrom key f (suc left) n place ≡ kept (w .stamp) (w .picture) ∷ readFrom key f left (n + 1) (place + 1)
   read-kept left n place w e o s l =
       let z = length-whole in
@@ -267,8 +278,8 @@ picture-most (kept s p ∷ xs) n at zero w v h =
 picture-most (kept s p ∷ xs) n at (suc place) w v h = picture-most xs (n + 1) (at + length p + 32) place w (v .1) h
 picture-most (gap ∷ xs) n at place w v h = picture-most xs (n + 1) at place w v h
 
-module _ (ed : Edition) (known-ed : Known ed) (p : Plain) (valid : Valid (p .shots)) (most : length (p .shots) ≤ ed .shots) (key16 : length (p .key) ≡ 16) (site16 : length (p .identity .siteMark) ≡ 16)
-    (fits : Fits ed (p .identity .name)) where
+module _ (ed : Edition) (known-ed : Known ed) (p : Plain) (valid : Valid (p .shots)) (most : length (p .shots) ≤ ed .shots)
+    (key16 : length (p .key) ≡ keyLength) (site16 : length (p .identity .siteMark) ≡ markLength) (fits : Fits ed (p .identity .name)) where
   all-given : Gives (p .key) (fileOf ed p) (p .shots) 1 (ed .header) 0
   all-given =
       let z : (j : ℕ) → 0 + j ≡ j = λ j. omega arith in
@@ -338,17 +349,14 @@ one-burst e e′ l l′ w w′ k q =
 
 -- ---- what is refused is withheld
 module _ (key f : Bytes) (place : ℕ) (out : Bytes) where
-  fetch-number : fetchAnswer key f place out .refusal ≡ fetchRefusal key f place out
-  unfolding fetchAnswer
-  fetch-number = refl
+  fetch-refusal : fetchAnswer key f place out .refusal ≡ fetchRefusal key f place out
+  fetch-refusal = fetched-refusal key f place out _ refl
 
-  check-number : checkAnswer key f .refusal ≡ checkRefusal key f
-  unfolding checkAnswer
-  check-number = refl
+  check-refusal : checkAnswer key f .refusal ≡ checkRefusal key f
+  check-refusal = checked-refusal key f _ refl
 
   check-mark : checkAnswer key f .mark ≡ checkMark key f
-  unfolding checkAnswer
-  check-mark = refl
+  check-mark = checked-mark key f _ refl
 
   refused-with : (num : ℕ) → fetchRefusal key f place out ≡ num → (num ≡ 0 → ⊥)
       → (notFetched num (checkMark key f) ≡ fetchAnswer key f place out) × (out ≡ fetchOutput key f place out)
@@ -365,15 +373,15 @@ module _ (key f : Bytes) (place : ℕ) (out : Bytes) where
   withheld : Withheld key f place out
   withheld = record {
     fetch = λ h.
-        let r = refused-with (fetchRefusal key f place out) refl (λ e. h (fetch-number ∙ e)) in
-        (sym (r .1), sym (r .0) ∙ ap₂ notFetched (sym fetch-number) (sym check-mark));
+        let r = refused-with (fetchRefusal key f place out) refl (λ e. h (fetch-refusal ∙ e)) in
+        (sym (r .1), sym (r .0) ∙ ap₂ notFetched (sym fetch-refusal) (sym check-mark));
     check = λ h.
-        let n : checkRefusal key f ≡ 0 → ⊥ = λ e. h (check-number ∙ e) in
+        let n : checkRefusal key f ≡ 0 → ⊥ = λ e. h (check-refusal ∙ e) in
         let e = record-check n in
         let r = fetch-refused key f place out (checkRefusal key f) (checkMark key f) (sym e) refl n in (
-          check-zeros (checkRefusal key f) (checkMark key f) refl refl n ∙ ap₂ notChecked (sym check-number) (sym check-mark),
-          sym (r .0) ∙ ap₂ notFetched (sym check-number) (sym check-mark),
-          e ∙ sym check-number,
+          check-zeros (checkRefusal key f) (checkMark key f) refl refl n ∙ ap₂ notChecked (sym check-refusal) (sym check-mark),
+          sym (r .0) ∙ ap₂ notFetched (sym check-refusal) (sym check-mark),
+          e ∙ sym check-refusal,
         );
     part = λ h. let r = record-refused key f place h in (sym (r .0), sym (r .1));
   }

@@ -7,9 +7,9 @@ use Prim.Native.Nat.{ℕ, _+_, _*_, _≤_}
 use native.Mathlib.Omega.{arith}
 use lib.Dec.{eqb}
 use Rattle.burst.specs.declared.Edition.{Edition}
-use Rattle.burst.proofs.Rules.{clash}
+use Rattle.burst.proofs.Rules.{refuted, clash}
 use Rattle.burst.proofs.Numbers.{keeps, begins, close-0}
-use Rattle.trace.specs.Plain.{kept, gap, pictures, usedBy, Plain, noBurst, Call, keepShot, dropShot, closeBurst, CallList, Answer, totalOf, numberOf, accepted, valueOf, afterCall, answerOf, afterCalls, answersOf, begun, plainOf, plainAnswers, beginNumberOf}
+use Rattle.trace.specs.Plain.{kept, gap, pictures, usedBy, Plain, newBurst, noBurst, Call, keepShot, dropShot, closeBurst, CallList, Answer, totalOf, numberOf, accepted, valueOf, afterCall, answerOf, afterCalls, answersOf, begun, plainOf, plainAnswers, beginNumberOf}
 use Rattle.trace.specs.Agreement.{editionFor}
 use Rattle.trace.proofs.Shots.{pictures-append, used-append}
 use Rattle.trace.proofs.Agreement.{agreement}
@@ -51,19 +51,15 @@ module _ (ed : Edition) (n : ℕ) where
   unfolding answerOf valueOf
   total-told p z = simp z
 
-not-true : (b : Bool) → (b ≡ true → ⊥) → b ≡ false
-not-true true h = absurd (h refl)
-not-true false h = refl
-
 module _ (ed : Edition) (l : CallList) (z : beginNumberOf ed l ≡ 0) (unclosed : CloseAnswered (l .calls) (rest (plainAnswers ed l)) → ⊥) where
   room-begun : Room ed (l .bufferLength) (begun ed l)
   unfolding begun
   room-begun =
       let w = begins _ _ _ _ z .room in
-      subst (λ (k : ℕ). Room ed (l .bufferLength) (cond (eqb k 0) (record { key = l .key; identity = l .identity; shots = []; closed = false }) noBurst)) (sym z) (λ h. omega arith)
+      subst (λ (k : ℕ). Room ed (l .bufferLength) (cond (eqb k 0) (newBurst (l .key) (l .identity)) noBurst)) (sym z) (λ h. omega arith)
 
   is-open : plainOf ed l .closed ≡ false
-  is-open = not-true _ (λ c. unclosed (reached-answered ed l (record { begun = z; closed = c })))
+  is-open = sym (refuted _ (λ c. unclosed (reached-answered ed l (record { begun = z; closed = c }))))
 
   closes-next : numberOf ed (l .bufferLength) (plainOf ed l) closeBurst ≡ 0
   unfolding plainOf
@@ -85,7 +81,8 @@ always-closes l b hb z unclosed =
     let e = agreement l b hb .answers in
     let e′ = agreement (andClose l) b hb .answers in
     let z′ : beginNumberOf (editionFor l) l ≡ 0 = sym (first-plain (editionFor l) l) ∙ sym (ap firstNumber e) ∙ z in
-    let unclosed′ : CloseAnswered (l .calls) (rest (plainAnswers (editionFor l) l)) → ⊥ = λ a. unclosed (subst (λ (xs : List Answer). CloseAnswered (l .calls) (rest xs)) (sym e) a) in
+    let unclosed′ : CloseAnswered (l .calls) (rest (plainAnswers (editionFor l) l)) → ⊥ = λ a. unclosed
+    (subst (λ (xs : List Answer). CloseAnswered (l .calls) (rest xs)) (sym e) a) in
     e′
     ∙ plain-then (editionFor l) l z′ unclosed′
     ∙ ap (λ (xs : List Answer). xs ++ (record { number = 0; mark = 0; value = totalOf (editionFor l) (plainOf (editionFor l) l) } ∷ [])) (sym e)

@@ -11,7 +11,8 @@ use lib.Dec.{eqb, leb, ltb}
 use lib.ListN.{length, drop}
 use Rattle.bytes_le.specs.Bytes.{Bytes}
 use Rattle.icepole.specs.declared.Variant.{Variant}
-use Rattle.icepole.specs.Variants.{sizes}
+use Rattle.icepole.specs.declared.Variant.the-variants.{Icepole128}
+use Rattle.icepole.specs.Variants.{sizes, tagLength}
 use Rattle.icepole.specs.Answers.{maxLength, tagAgrees, fitsOutput, sealNumber, openNumber, sealRefusal, sealAnswer, sealOutput, openRefusal, openAnswer, openOutput}
 use Rattle.strips.specs.declared.StripState.{StripState}
 use Rattle.strips.specs.Answers.{startNumber, stripNumber, endNumber, startRefusal, startAnswer, startOutput, stripRefusal, stripAnswer, stripOutput, endRefusal, endAnswer, endOutput}
@@ -19,6 +20,7 @@ use Rattle.icepole_c.specs.Calls.{fitsBoth, openCallInfo}
 use Rattle.icepole_c.specs.Strips.{stripStateLength, stripStateIn, startCallRefusal, startCallOutput, startCallState, stripCallRefusal, stripCallOutput, stripCallState, endCallRefusal, endCallOutput, endCallState}
 use Rattle.burst.specs.declared.Recorder.{Recorder}
 use Rattle.burst.specs.Editions.{written}
+use Rattle.burst.specs.Parts.{keyLength, markLength}
 use Rattle.burst.specs.Layout.{Identity, maxPicture}
 use Rattle.burst.proofs.Rules.{clash}
 use Rattle.burst.specs.Numbers.{usedAfter, totalFrom, beginNumber, keepNumber, dropNumber, closeNumber}
@@ -28,7 +30,6 @@ use Rattle.trace.specs.Trace.{nextRecorder, nextBuffer, answerTo}
 use Rattle.reader.specs.Verdicts.{verdictNumber}
 use Rattle.reader.specs.Front.{keptIn, entryAt, positionOf, frontRules}
 use Rattle.reader.specs.Reader.{verdict, checkRefusal, checkMark, checkAnswer, recordRefusal, recordOffset, recordBytesIn, fetchRefusal, fetchAnswer, fetchOutput}
-use Rattle.reader.proofs.Answers.{found}
 use Rattle.reader.proofs.Marks.{SomeDiffers, seven, differing, agreeing, mark-closing, mark-record}
 use Rattle.listing.specs.Listing.{listing, listRefusal, listAnswer, listOutput}
 use Rattle.listing.proofs.Lines.{listing-length}
@@ -49,7 +50,7 @@ seal-number v k n s a m o =
     ∷ row 2 (differs n (sizes v .nonce))
     ∷ row 3 (differs s (sizes v .secret))
     ∷ row 4 (either (less maxLength a) (less maxLength m))
-    ∷ row 5 (less o (sizes v .secret + (m + 16)))
+    ∷ row 5 (less o (sizes v .secret + (m + tagLength)))
     ∷ [])
 
 module _ (v : Variant) (key nonce secret ad m out : Bytes) where
@@ -73,8 +74,8 @@ opening v k n a c fits agrees noRoom tagDiffers r t =
     by-tests
     (row 1 (differs k (sizes v .key))
     ∷ row 2 (differs n (sizes v .nonce))
-    ∷ row 4 (either (less maxLength a) (implied c (sizes v .secret + 16)))
-    ∷ row 6 (less c (sizes v .secret + 16))
+    ∷ row 4 (either (less maxLength a) (implied c (sizes v .secret + tagLength)))
+    ∷ row 6 (less c (sizes v .secret + tagLength))
     ∷ row 5 r
     ∷ row 7 t
     ∷ [])
@@ -85,9 +86,9 @@ never = record { yes = λ h. clash true refl (sym h); no′ = λ _ x. x }
 -- an output without room
 narrow : (v : Variant) (c out : Bytes) → Tells (not (fitsOutput v c out)) (NoRoomToOpen v c out)
 narrow v c out =
-    let t = at-most (length c - (sizes v .secret + 16)) (length out) in
+    let t = at-most (length c - (sizes v .secret + tagLength)) (length out) in
     record {
-      yes = λ h. leb-false (length c - (sizes v .secret + 16)) (length out) (not-true _ h);
+      yes = λ h. leb-false (length c - (sizes v .secret + tagLength)) (length out) (not-true _ h);
       no′ = λ h g. let l = t .yes (not-false _ h) in omega arith;
     }
 
@@ -129,7 +130,8 @@ module _ (v : Variant) (key nonce ad c : Bytes) where
       opens-in-c = record {
         order =
             opening v (length key) (length nonce) (length ad) (length c) (fitsBoth v key nonce ad c out info) tag _ (tag ≡ false)
-            (one-fails (leb (8 + sizes v .secret) (length info)) (fitsOutput v c out) (length info < 8 + sizes v .secret) (NoRoomToOpen v c out) short (narrow v c out)) (fails tag);
+            (one-fails (leb (8 + sizes v .secret) (length info)) (fitsOutput v c out) (length info < 8 + sizes v .secret) (NoRoomToOpen v c out) short (narrow v c out))
+            (fails tag);
         refused = λ h. let z = ne-eqb _ 0 h in (simp z, simp z);
       }
 
@@ -149,7 +151,13 @@ beside-tag o = let t = less (o + 16) (16 + (0 + 16)) in record { yes = λ h. let
 start-number : StartNumber
 unfolding startNumber sealNumber
 start-number k n s a o =
-    by-tests (row 1 (differs k 16) ∷ row 2 (differs n 16) ∷ row 3 (differs s 16) ∷ row 4 (no-message a) ∷ row 5 (beside-tag o) ∷ [])
+    by-tests
+    (row 1 (differs k (sizes Icepole128 .key))
+    ∷ row 2 (differs n (sizes Icepole128 .nonce))
+    ∷ row 3 (differs s (sizes Icepole128 .secret))
+    ∷ row 4 (no-message a)
+    ∷ row 5 (beside-tag o)
+    ∷ [])
 
 module _ (key nonce secret ad out : Bytes) where
   start-order : FirstOf (startRefusal key nonce secret ad out) (orderOfStart (length key) (length nonce) (length secret) (length ad) (length out))
@@ -174,7 +182,7 @@ module _ (s : StripState) (out : Bytes) where
   end-order : FirstOf (endRefusal s out) (orderOfEnd s out)
   unfolding endRefusal endNumber
   end-order =
-      by-tests (row 14 (either (holds (s .finished)) (less maxLength (s .count))) ∷ row 5 (less (length out) 16) ∷ [])
+      by-tests (row 14 (either (holds (s .finished)) (less maxLength (s .count))) ∷ row 5 (less (length out) tagLength) ∷ [])
 
   ends : End s out
   unfolding endAnswer endOutput
@@ -222,7 +230,11 @@ module _ (key : Bytes) (i : Identity) (buffer : Bytes) where
   unfolding beginAnswer beginBuffer beginRefusal beginNumber
   begins = record {
     order =
-        by-tests (row 1 (differs (length key) 16) ∷ row 3 (differs (length (i .siteMark)) 16) ∷ row 11 (less (length buffer) (totalFrom (written (length key) .header) 0)) ∷ []);
+        by-tests
+        (row 1 (differs (length key) keyLength)
+        ∷ row 3 (differs (length (i .siteMark)) markLength)
+        ∷ row 11 (less (length buffer) (totalFrom (written (length key) .header) 0))
+        ∷ []);
     refused = λ h. let z = ne-eqb _ 0 h in (simp z, simp z);
   }
 
@@ -231,7 +243,13 @@ module _ (r : Recorder) (stamp picture buffer : Bytes) where
   unfolding keepAnswer keepBuffer keepRefusal keepNumber
   keeps = record {
     order =
-        by-tests (row 8 (fails (isSound (editionOf r) r)) ∷ row 3 (differs (length stamp) 16) ∷ row 9 (at-most (editionOf r .shots) (r .taken .0)) ∷ row 10 (either (less (length picture) 1) (less maxPicture (length picture))) ∷ row 11 (less (length buffer) (totalFrom (usedAfter (r .used) (length picture)) (r .kept .0 + 1))) ∷ []);
+        by-tests
+        (row 8 (fails (isSound (editionOf r) r))
+        ∷ row 3 (differs (length stamp) markLength)
+        ∷ row 9 (at-most (editionOf r .shots) (r .taken .0))
+        ∷ row 10 (either (less (length picture) 1) (less maxPicture (length picture)))
+        ∷ row 11 (less (length buffer) (totalFrom (usedAfter (r .used) (length picture)) (r .kept .0 + 1)))
+        ∷ []);
     refused = λ h. let z = ne-eqb _ 0 h in (simp z, simp z);
   }
 
@@ -272,7 +290,7 @@ module _ (key f : Bytes) where
   check-order : FirstOf (checkRefusal key f) (orderOfCheck key f)
   unfolding checkRefusal
   check-order =
-      first _ 1 _ _ (drop 1 (orderOfCheck key f)) (differs (length key) 16)
+      first _ 1 _ _ (drop 1 (orderOfCheck key f)) (differs (length key) keyLength)
       (first _ 12 _ _ (drop 2 (orderOfCheck key f)) (fails (frontRules f))
       (by-number told 7 (SomeDiffers key f) (λ h. (differing key f h, seven (verdict key f) h)) (agreeing key f)))
 
@@ -304,9 +322,16 @@ module _ (key f : Bytes) (place : ℕ) where
   place-order =
       then-tests (orderOfCheck key f) (checkRefusal key f) (check-some key f) (check-order key f) (row 13 (at-most (keptIn f) place) ∷ [])
 
+  place-some : NoZero (orderAtPlace key f place)
+  place-some = (one-more 0, (one-more 11, (one-more 6, (one-more 12, tt))))
+
   place-mark : recordRefusal key f place ≢ 7 → checkMark key f ≡ 0
   unfolding recordRefusal
   place-mark h = behind-check key f _ h
+
+  -- a number behind record's: where it is not 7, neither is check's
+  behind-place : (n : ℕ) → cond (not (eqb (recordRefusal key f place) 0)) (recordRefusal key f place) n ≢ 7 → checkMark key f ≡ 0
+  behind-place n h = place-mark (λ e. h (ap (λ (m : ℕ). cond (not (eqb m 0)) m n) e))
 
   records : Record key f place
   unfolding recordBytesIn recordOffset
@@ -317,16 +342,16 @@ module _ (key f : Bytes) (place : ℕ) (out : Bytes) where
   unfolding fetchAnswer fetchOutput fetchRefusal checkAnswer
   fetches = record {
     order =
-        then-tests (orderOfCheck key f) (checkRefusal key f) (check-some key f) (check-order key f)
-        (row 13 (at-most (keptIn f) place) ∷ row 5 (less (length out) (entryAt f (positionOf f place) .length)) ∷ []);
+        then-tests (orderAtPlace key f place) (recordRefusal key f place) (place-some key f place) (place-order key f place)
+        (row 5 (less (length out) (entryAt f (positionOf f place) .length)) ∷ []);
     refused = λ h. let z = ne-eqb _ 0 h in (simp z, simp z);
-    unmarked = behind-check key f _;
+    unmarked = behind-place key f place _;
   }
 
   -- at a place that there is, the output alone decides
   output-decides : recordRefusal key f place ≡ 0 → fetchAnswer key f place out .refusal ≡ cond (ltb (length out) (entryAt f (positionOf f place) .length)) 5 0
   unfolding fetchAnswer fetchRefusal
-  output-decides h = let w = found key f place h in simp (w .zero, lt-leb (keptIn f) place (w .below))
+  output-decides h = simp h
 
 module _ (key f info : Bytes) where
   checks-in-c : CheckCall key f info
@@ -363,11 +388,11 @@ module _ (key f : Bytes) (place : ℕ) (out info : Bytes) where
   unfolding fetchCallRefusal fetchCallOutput fetchCallInfo
   fetches-in-c = record {
     order =
-        behind (orderAtPlace key f place) fiveOrder (recordRefusal key f place) _ (one-more 0, (one-more 11, (one-more 6, (one-more 12, tt)))) (place-order key f place)
+        behind (orderAtPlace key f place) fiveOrder (recordRefusal key f place) _ (place-some key f place) (place-order key f place)
         (λ h. subst (λ (n : ℕ). FirstOf n fiveOrder) (sym (fives h))
         (by-tests (row 5 (either (less (length info) fetchInfoLength) (less (length out) (entryAt f (positionOf f place) .length))) ∷ [])));
     refused = λ h. let z = ne-eqb _ 0 h in (simp z, simp z);
-    unmarked = λ h. place-mark key f place (λ e. h (ap (λ (m : ℕ). cond (not (eqb m 0)) m (cond infoShort 5 (cond (not (eqb (fetchAnswer key f place out .refusal) 0)) (fetchAnswer key f place out .refusal) 0))) e));
+    unmarked = behind-place key f place _;
   }
 
 -- ---- the lister

@@ -11,12 +11,14 @@ use lib.Dec.{eqb}
 use lib.ListN.{length, length-append}
 use Rattle.bytes_le.specs.Bytes.{Bytes}
 use Rattle.burst.specs.declared.Edition.{Edition}
+use Rattle.burst.specs.Parts.{keyLength, markLength}
 use Rattle.burst.specs.Layout.{Identity}
-use Rattle.trace.specs.Plain.{kept, gap, Plain, noBurst, Way, Call, keepShot, dropShot, closeBurst, CallList, numberOf, accepted, afterCall, answerOf, afterCalls, answersOf, begun, plainOf, plainAnswers, beginNumberOf}
+use Rattle.trace.specs.Plain.{kept, gap, Plain, newBurst, noBurst, Way, Call, keepShot, dropShot, closeBurst, CallList, numberOf, accepted, afterCall, answerOf, afterCalls, answersOf, begun, plainOf, plainAnswers, beginNumberOf}
 use Rattle.burst.proofs.Rules.{clash}
-use Rattle.burst.proofs.Numbers.{keeps, drops, begins, keep-8, drop-8, close-8}
+use Rattle.burst.proofs.Numbers.{keeps, drops, begins}
 use Rattle.trace.specs.Agreement.{Reached}
 use Rattle.trace.proofs.Shots.{Valid, valid-snoc}
+use Rattle.trace.proofs.Agreement.{closed-8, closed-stays}
 use Rattle.claims.specs.Demand3.{CloseAnswered, rest, Answered}
 
 pub zero-or-not : (m : ℕ) (A : Type 0) → (m ≡ 0 → A) → ((m ≡ 0 → ⊥) → A) → A
@@ -33,8 +35,8 @@ module _ (ed : Edition) where
     pub identity : p .identity ≡ i
     pub valid : Valid (p .shots)
     pub most : length (p .shots) ≤ ed .shots
-    pub key16 : length (p .key) ≡ 16
-    pub site16 : length (p .identity .siteMark) ≡ 16
+    pub key16 : length (p .key) ≡ keyLength
+    pub site16 : length (p .identity .siteMark) ≡ markLength
 
   module _ (n : ℕ) where
     done : (p : Plain) (c : Call) → numberOf ed n p c ≡ 0 → afterCall ed n p c ≡ accepted ed n p c
@@ -84,20 +86,14 @@ module _ (ed : Edition) where
   fine l r =
       let w = begins _ _ _ _ (r .begun) in
       fine-after (l .bufferLength) (l .key) (l .identity) (begun ed l) (l .calls)
-      (subst (λ (z : ℕ). Fine (l .key) (l .identity) (cond (eqb z 0) (record { key = l .key; identity = l .identity; shots = []; closed = false }) noBurst)) (sym (r .begun))
+      (subst (λ (z : ℕ). Fine (l .key) (l .identity) (cond (eqb z 0) (newBurst (l .key) (l .identity)) noBurst)) (sym (r .begun))
       (record { key = refl; identity = refl; valid = tt; most = omega arith; key16 = w .key; site16 = w .mark }))
 
   -- ---- closed, exactly if a close was answered 0
   module _ (n : ℕ) where
-    closed-8 : (p : Plain) (c : Call) → p .closed ≡ true → numberOf ed n p c ≡ 8
-    unfolding numberOf
-    closed-8 p (keepShot s q) h = sym (keep-8 _ _ _ _ _ _ _ _ (ap not h))
-    closed-8 p (dropShot way) h = sym (drop-8 _ _ _ (ap not h))
-    closed-8 p closeBurst h = sym (close-8 _ _ _ _ (ap not h))
-
-    closed-stays : (p : Plain) (c : Call) → p .closed ≡ true → afterCall ed n p c ≡ p
-    unfolding afterCall
-    closed-stays p c h = simp (closed-8 p c h)
+    -- a closed burst stays closed
+    shut-after : (p : Plain) (c : Call) → p .closed ≡ true → afterCall ed n p c .closed ≡ true
+    shut-after p c h = ap (λ (q : Plain). q .closed) (closed-stays ed n p h c) ∙ h
 
     answer-number : (p : Plain) (c : Call) → answerOf ed n p c .number ≡ numberOf ed n p c
     unfolding answerOf
@@ -105,15 +101,15 @@ module _ (ed : Edition) where
 
     closed-after : (p : Plain) (cs : List Call) → p .closed ≡ true → afterCalls ed n p cs .closed ≡ true
     closed-after p [] h = h
-    closed-after p (c ∷ cs) h = closed-after (afterCall ed n p c) cs (ap (λ (q : Plain). q .closed) (closed-stays p c h) ∙ h)
+    closed-after p (c ∷ cs) h = closed-after (afterCall ed n p c) cs (shut-after p c h)
 
     -- a closed burst answers no close with 0
     none-answered : (p : Plain) (cs : List Call) → p .closed ≡ true → CloseAnswered cs (answersOf ed n p cs) → ⊥
     none-answered p [] h a = a
-    none-answered p (keepShot s q ∷ cs) h a = none-answered _ cs (ap (λ (q : Plain). q .closed) (closed-stays p (keepShot s q) h) ∙ h) a
-    none-answered p (dropShot way ∷ cs) h a = none-answered _ cs (ap (λ (q : Plain). q .closed) (closed-stays p (dropShot way) h) ∙ h) a
-    none-answered p (closeBurst ∷ cs) h (inl a) = let e : _≡_ {A = ℕ} 8 0 = sym (closed-8 p closeBurst h) ∙ sym (answer-number p closeBurst) ∙ a in omega arith
-    none-answered p (closeBurst ∷ cs) h (inr a) = none-answered _ cs (ap (λ (q : Plain). q .closed) (closed-stays p closeBurst h) ∙ h) a
+    none-answered p (keepShot s q ∷ cs) h a = none-answered _ cs (shut-after p (keepShot s q) h) a
+    none-answered p (dropShot way ∷ cs) h a = none-answered _ cs (shut-after p (dropShot way) h) a
+    none-answered p (closeBurst ∷ cs) h (inl a) = let e : _≡_ {A = ℕ} 8 0 = sym (closed-8 ed n p h closeBurst) ∙ sym (answer-number p closeBurst) ∙ a in omega arith
+    none-answered p (closeBurst ∷ cs) h (inr a) = none-answered _ cs (shut-after p closeBurst h) a
 
     keep-open : (p : Plain) (s q : Bytes) → p .closed ≡ false → afterCall ed n p (keepShot s q) .closed ≡ false
     unfolding accepted

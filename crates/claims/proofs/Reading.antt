@@ -13,8 +13,9 @@ use Rattle.bytes_le.proofs.Laws.{unle-2, unle-4, unle-8}
 use Rattle.burst.specs.declared.Entry.{Entry}
 use Rattle.burst.specs.declared.Edition.{Edition}
 use Rattle.burst.specs.declared.Name.{Name}
-use Rattle.burst.specs.Editions.{fieldsLength, maxEntries, Known}
-use Rattle.burst.specs.Parts.{Fits, partAgrees, partMark, partBody}
+use Rattle.burst.specs.Fields.{fieldsLength}
+use Rattle.burst.specs.Editions.{maxEntries, Known}
+use Rattle.burst.specs.Parts.{Fits, partAgrees, partMark, partBody, markLength}
 use Rattle.burst.specs.Layout.{headerRest, entryBytes, headerBytes, recordBytes}
 use Rattle.burst.specs.Index.{entryOf}
 use Rattle.trace.specs.Plain.{Firing, kept, gap, pictures, usedBy, records, index}
@@ -79,7 +80,7 @@ module _ (f key : Bytes) (taken end : ℕ) (ht : taken ≤ maxEntries) (he : end
     pub body : bodyIn key f (recordPart f pos) ≡ p
     pub sealed : sealedIn key f (recordPart f pos) ≡ c
 
-  opens-part : (n at : ℕ) (s p rest : Bytes) → length s ≡ 16 → drop at f ≡ recordBytes (editionIn f) key (nameIn f) n at s p ++ rest
+  opens-part : (n at : ℕ) (s p rest : Bytes) → length s ≡ markLength → drop at f ≡ recordBytes (editionIn f) key (nameIn f) n at s p ++ rest
       → (agrees key f (part n at (length p)) ≡ true) × (markIn key f (part n at (length p)) ≡ s) × (bodyIn key f (part n at (length p)) ≡ p)
       × (sealedIn key f (part n at (length p)) ≡ recordBytes (editionIn f) key (nameIn f) n at s p)
   unfolding agrees markIn bodyIn recordBytes
@@ -95,7 +96,8 @@ module _ (f key : Bytes) (taken end : ℕ) (ht : taken ≤ maxEntries) (he : end
         t,
       )
 
-  opens-to : (n at pos : ℕ) (s p rest rest₂ : Bytes) → EntryIn f rest pos n at (length p) → length s ≡ 16 → drop at f ≡ recordBytes (editionIn f) key (nameIn f) n at s p ++ rest₂
+  opens-to : (n at pos : ℕ) (s p rest rest₂ : Bytes) → EntryIn f rest pos n at (length p) → length s ≡ markLength
+      → drop at f ≡ recordBytes (editionIn f) key (nameIn f) n at s p ++ rest₂
       → OpensTo pos s p (recordBytes (editionIn f) key (nameIn f) n at s p)
   opens-to n at pos s p rest rest₂ w hs d =
       let o = opens-part n at s p rest₂ hs d in
@@ -108,7 +110,7 @@ module _ (f key : Bytes) (taken end : ℕ) (ht : taken ≤ maxEntries) (he : end
       }
 
   -- the record of a first kept shot, and the records behind it
-  first-record : (s p : Bytes) (xs : List Firing) (n at : ℕ) (rest : Bytes) → length s ≡ 16 → drop at f ≡ records (editionIn f) key (nameIn f) n at (kept s p ∷ xs) ++ rest
+  first-record : (s p : Bytes) (xs : List Firing) (n at : ℕ) (rest : Bytes) → length s ≡ markLength → drop at f ≡ records (editionIn f) key (nameIn f) n at (kept s p ∷ xs) ++ rest
       → (drop at f ≡ recordBytes (editionIn f) key (nameIn f) n at s p ++ (records (editionIn f) key (nameIn f) (n + 1) (at + length p + 32) xs ++ rest))
       × (drop (at + length p + 32) f ≡ records (editionIn f) key (nameIn f) (n + 1) (at + length p + 32) xs ++ rest)
   first-record s p xs n at rest hs d =

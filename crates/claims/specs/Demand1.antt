@@ -1,10 +1,12 @@
--- Demand 1. "Every public call ends on every input. A bad one returns the refusal number that the documents fix and leaves the recorder and every lent buffer with
--- the bytes they had. Public calls have no `requires`." The prover shows of every call that it ends, and its source that it has no `requires`; the rest is here,
--- over what the contracts say that the calls answer and leave (ad is the joining of the two parts of associated data). For each call:
+-- Demand 1. "Every public call ends on every input. A bad one returns the refusal number that the documents fix and leaves the recorder and every lent
+-- buffer with the bytes they had. Public calls have no `requires`." The prover shows of every call that it ends, and its source that it has no
+-- `requires`; the rest is here, over what the contracts say that the calls answer and leave (ad is the joining of the two parts of associated data).
+-- For each call:
 --   order     its number is that of the first condition in its order to hold, and 0 where none does (01, "Turned down, by example")
 --   refused   under every other number recorder, strip state and lent buffers are as they were, and the other fields are zero; the mark is 0 except under 7
--- Two calls were given no recorder and no state, and 01 says what they return: a begin turned down a closed recorder, a start turned down a finished strip state, both
--- otherwise zero. In C start returns its state in a lent slice, which is the one lent buffer that is written under a refusal. Numbers lent by pointer are answers.
+-- Two calls were given no recorder and no state, and 01 says what they return: a begin turned down a closed recorder, a start turned down a finished
+-- strip state, both otherwise zero. In C start returns its state in a lent slice, which is the one lent buffer that is written under a refusal.
+-- Numbers lent by pointer are answers.
 -- Assumes nothing.
 use mathlib.Core.Bool.{Bool, true, false}
 use mathlib.Core.List.{List, [], _∷_, _++_}
@@ -17,7 +19,7 @@ use Rattle.icepole.specs.declared.Variant.{Variant}
 use Rattle.icepole.specs.declared.Variant.the-variants.{Icepole128}
 use Rattle.icepole.specs.declared.Sealed.{Sealed}
 use Rattle.icepole.specs.declared.Opened.{Opened}
-use Rattle.icepole.specs.Variants.{sizes}
+use Rattle.icepole.specs.Variants.{sizes, tagLength}
 use Rattle.icepole.specs.Answers.{maxLength, tagAgrees, sealNumber, sealRefusal, sealAnswer, sealOutput, openNumber, fitsOutput, openAnswer, openOutput}
 use Rattle.strips.specs.declared.StripState.{StripState}
 use Rattle.strips.specs.declared.StripAnswer.{StripAnswer}
@@ -26,6 +28,7 @@ use Rattle.icepole_c.specs.Calls.{openCallRefusal, openCallOutput, openCallInfo
 use Rattle.icepole_c.specs.Strips.{stripStateLength, stripStateBytes, stripStateIn, startCallRefusal, startCallOutput, startCallState, stripCallRefusal, stripCallOutput, stripCallState, endCallRefusal, endCallOutput, endCallState}
 use Rattle.burst.specs.declared.Recorder.{Recorder}
 use Rattle.burst.specs.Editions.{written}
+use Rattle.burst.specs.Parts.{keyLength, markLength}
 use Rattle.burst.specs.Layout.{Identity, maxPicture}
 use Rattle.burst.specs.Numbers.{usedAfter, totalFrom}
 use Rattle.burst.specs.Recorder.{editionOf, isSound, noRecorder, beginAnswer, beginBuffer, dropAnswer, keepAnswer, keepBuffer, closeAnswer, closeBuffer}
@@ -59,7 +62,7 @@ orderOfSeal v k n s a m o =
     ∷ (2 on (n ≢ sizes v .nonce))
     ∷ (3 on (s ≢ sizes v .secret))
     ∷ (4 on ((maxLength < a) ⊎ (maxLength < m)))
-    ∷ (5 on (o < sizes v .secret + (m + 16)))
+    ∷ (5 on (o < sizes v .secret + (m + tagLength)))
     ∷ []
 
 -- what `seal_number` answers
@@ -82,8 +85,8 @@ abbrev pub orderOfOpen : Variant → (k n a c : ℕ) (noRoom differs : Type 0) �
 orderOfOpen v k n a c noRoom differs =
     (1 on (k ≢ sizes v .key))
     ∷ (2 on (n ≢ sizes v .nonce))
-    ∷ (4 on ((maxLength < a) ⊎ (maxLength + (sizes v .secret + 16) < c)))
-    ∷ (6 on (c < sizes v .secret + 16))
+    ∷ (4 on ((maxLength < a) ⊎ (maxLength + (sizes v .secret + tagLength) < c)))
+    ∷ (6 on (c < sizes v .secret + tagLength))
     ∷ (5 on noRoom)
     ∷ (7 on differs)
     ∷ []
@@ -94,7 +97,7 @@ OpenNumber = (v : Variant) (k n a c : ℕ) (fits : Bool) → FirstOf (openNumber
 
 -- the output has no room for the message that c implies
 abbrev pub NoRoomToOpen : Variant → Bytes → Bytes → Type 0
-NoRoomToOpen v c out = length out < length c - (sizes v .secret + 16)
+NoRoomToOpen v c out = length out < length c - (sizes v .secret + tagLength)
 
 module _ (v : Variant) (key nonce ad c : Bytes) where
   abbrev TagDiffers : Type 0
@@ -131,11 +134,11 @@ module _ (v : Variant) (key nonce ad c : Bytes) where
 -- ---- strips. Start: 1, 2, 3, 4, 5. By the lengths of key, nonce, secret number, associated data and output
 abbrev pub orderOfStart : (k n s a o : ℕ) → List Refusal
 orderOfStart k n s a o =
-    (1 on (k ≢ 16))
-    ∷ (2 on (n ≢ 16))
-    ∷ (3 on (s ≢ 16))
+    (1 on (k ≢ sizes Icepole128 .key))
+    ∷ (2 on (n ≢ sizes Icepole128 .nonce))
+    ∷ (3 on (s ≢ sizes Icepole128 .secret))
     ∷ (4 on (maxLength < a))
-    ∷ (5 on (o < 16))
+    ∷ (5 on (o < sizes Icepole128 .secret))
     ∷ []
 
 -- what `start_number` answers
@@ -179,7 +182,7 @@ module _ (s : StripState) (out : Bytes) where
   abbrev pub orderOfEnd : List Refusal
   orderOfEnd =
       (14 on ((s .finished ≡ true) ⊎ (maxLength < s .count)))
-      ∷ (5 on (length out < 16))
+      ∷ (5 on (length out < tagLength))
       ∷ []
 
   pub record End : Type 0 where
@@ -221,8 +224,8 @@ module _ (key : Bytes) (i : Identity) (buffer : Bytes) where
   pub record Begin : Type 0 where
     pub order :
         FirstOf beginning
-        ((1 on (length key ≢ 16))
-        ∷ (3 on (length (i .siteMark) ≢ 16))
+        ((1 on (length key ≢ keyLength))
+        ∷ (3 on (length (i .siteMark) ≢ markLength))
         ∷ (11 on (length buffer < totalFrom (written (length key) .header) 0))
         ∷ [])
     pub refused : beginning ≢ 0
@@ -237,7 +240,7 @@ module _ (r : Recorder) (stamp picture buffer : Bytes) where
     pub order :
         FirstOf keeping
         ((8 on (isSound (editionOf r) r ≡ false))
-        ∷ (3 on (length stamp ≢ 16))
+        ∷ (3 on (length stamp ≢ markLength))
         ∷ (9 on (editionOf r .shots ≤ r .taken .0))
         ∷ (10 on ((length picture < 1) ⊎ (maxPicture < length picture)))
         ∷ (11 on (length buffer < totalFrom (usedAfter (r .used) (length picture)) (r .kept .0 + 1)))
@@ -287,7 +290,7 @@ module _ (key f : Bytes) where
 
   abbrev pub orderOfCheck : List Refusal
   orderOfCheck =
-      (1 on (length key ≢ 16))
+      (1 on (length key ≢ keyLength))
       ∷ (12 on (frontRules f ≡ false))
       ∷ (7 on (ClosingDiffers ⊎ ((place : ℕ) × (place < keptIn f) × (recordAgrees place ≡ false))))
       ∷ []

@@ -1,4 +1,5 @@
--- Demand 3, over whole lists of calls (01, "Recorder", "Reader"): a begin, then keep, drop (by value or in place) and close in any order, refused ones among them.
+-- Demand 3, over whole lists of calls (01, "Recorder", "Reader"): a begin, then keep, drop (by value or in place) and close in any order, refused ones
+-- among them.
 --   agrees      numbers, shot numbers and totals equal those of the plain burst, and after an accepted close the front of the buffer is its file
 --   answered    an accepted close is one that was answered 0
 --   closes      a burst that was begun and is not closed can be closed next
@@ -8,7 +9,8 @@
 --   on-card     so too from the front of the buffer that the list leaves
 --   reads       and of every accepted file, what was read back makes that file again, as one of the file's own edition
 --   withholds   otherwise it releases no picture byte
--- A list is read as one of an edition, a row of `editions`; the row that the recorder makes of it is `editionFor`. The cipher is the one that `Parts` of the burst file chooses, ICEPOLE-128. Assumes nothing.
+-- A list is read as one of an edition, a row of `editions`; the row that the recorder makes of it is `editionFor`. The cipher is the one that `Parts` of
+-- the burst file chooses, ICEPOLE-128. Assumes nothing.
 use mathlib.Core.Bool.{true, cond, _&&_}
 use mathlib.Core.List.{List, [], _∷_, _++_}
 use mathlib.Core.Logic.{_↔_, _⊎_}
@@ -78,10 +80,14 @@ OneBurst = (e e′ : Edition) (l l′ : CallList) → Filed e l → Filed e′ l
     → (e ≡ e′) × SameBurst (plainOf e l) (plainOf e′ l′)
 
 -- ---- the reader accepts exactly the files of such lists
--- a lent slice: bytes, and fewer than 2^63 of them
+-- every slice has fewer bytes than so many
+abbrev pub sliceBound : ℕ
+sliceBound = 2 ^ 63
+
+-- a lent slice
 pub record Slice (b : Bytes) : Type 0 where
   pub bytes : AllBytes b
-  pub size : length b < 2 ^ 63
+  pub size : length b < sliceBound
 
 -- what the types of the calls say of their arguments; of the name, `Filed` says it
 abbrev pub TypedCalls : List Call → Type 0
@@ -93,7 +99,7 @@ TypedCalls (closeBurst ∷ cs) = TypedCalls cs
 pub record Typed (l : CallList) : Type 0 where
   pub key : Slice (l .key)
   pub siteMark : Slice (l .identity .siteMark)
-  pub buffer : l .bufferLength < 2 ^ 63
+  pub buffer : l .bufferLength < sliceBound
   pub calls : TypedCalls (l .calls)
 
 -- f is genuine under the key: the file of some such list with that key, as one of some row

@@ -1,4 +1,6 @@
--- The marked values of document 01, its example of burst 7 with what the lister prints for it, and its refusals by example and the order of every call's (but 13, which takes an accepted file), as one table: what the definitions give, and what the document says. `proofs/Marked.antt` shows that the two sides agree.
+-- The marked values of document 01, its example of burst 7 with what the lister prints for it, and its refusals by example and the order of every call's
+-- (but 13, which takes an accepted file), as one table: what the definitions give, and what the document says. `proofs/Marked.antt` shows that the two
+-- sides agree.
 -- Assumes nothing.
 use mathlib.Core.Path.{_≡_}
 use mathlib.Core.Bool.{true, false}
@@ -36,7 +38,8 @@ sboxOf n = number 5 (sbox (bit n))
 abbrev pub xoredIn : Bytes → ℕ → State
 xoredIn b frame = stateOf (xorWith (replicate 160 0) (pad b frame))
 
--- burst 7 with drop, keep of 3 bytes, drop (01, "Afterwards"), closed in a buffer of 111 bytes; the key, the site mark, the stamp and the picture do not matter here
+-- burst 7 with drop, keep of 3 bytes, drop (01, "Afterwards"), closed in a buffer of 111 bytes; the key, the site mark, the stamp and the picture do not
+-- matter here
 abbrev pub list7 : CallList
 list7 = record {
   key = replicate 16 0;
@@ -61,7 +64,8 @@ list60 = record {
 abbrev answers : CallList → Grid
 answers l = map (λ (a : Answer). a .number ∷ a .mark ∷ a .value ∷ []) (plainAnswers edition1 l)
 
--- the refusals of document 01's table by its examples, from the lengths alone; then the largest picture in the smallest buffer, one byte less, and one byte more of picture
+-- the refusals of document 01's table by its examples, from the lengths alone; then the largest picture in the smallest buffer, one byte less, and one
+-- byte more of picture
 abbrev pub refusals : List ℕ
 refusals =
     sealNumber (sizes Icepole128) 15 16 16 0 3 35
@@ -114,7 +118,8 @@ sealOrder =
     ∷ sealNumber (sizes Icepole128) 16 16 16 0 67108865 0
     ∷ []
 
--- 1 and 2, 2 and 4, 4 (of the associated data) and 6, 6 and 5 (of a further slice), 5 and 7; then a message that is too long by what its sealed message implies, with 5
+-- 1 and 2, 2 and 4, 4 (of the associated data) and 6, 6 and 5 (of a further slice), 5 and 7; then a message that is too long by what its sealed message
+-- implies, with 5
 abbrev pub openOrder : List ℕ
 openOrder =
     openNumber (sizes Icepole128) 15 12 0 35 true true
@@ -160,7 +165,9 @@ keepOrder =
 abbrev pub dropCloseOrder : List ℕ
 dropCloseOrder = dropNumber edition1 false 60 ∷ closeNumber false 0 32 63 ∷ closeNumber true 0 32 63 ∷ []
 
--- check's 1 and 12. Its 12 and 7: the seals of this file are zeros, which were 7 if it came first. Fetch's and record's check with 13 and fetch's 5: place 0 of a file with kept 0, whose entry says 3 bytes, and no output. 13 and 5 hold together without check's only of an accepted file, which is not worked out here; `Demand1` has that order
+-- check's 1 and 12. Its 12 and 7: the seals of this file are zeros, which would give 7 if that came first. Fetch's and record's check with 13 and fetch's 5:
+-- place 0 of a file with kept 0, whose entry says 3 bytes, and no output. 13 and 5 hold together without check's only of an accepted file, which is not
+-- worked out here; `Demand1` has that order
 abbrev pub readOrder : List ℕ
 readOrder =
     checkRefusal (replicate 15 0) (front7 0)

@@ -10,6 +10,6 @@ fn main() {
     let n = io::read_full(STDIN_FILENO, &mut file);
     let mut text = [0u8; TEXT_ROOM];
     let r = listing::list_front(&file[..n], &mut text);
-    let length = r.length;
-    io::write_all(STDOUT_FILENO, &text[..length]);
+    let count = r.length;
+    io::write_all(STDOUT_FILENO, &text[..count]);
 }

@@ -18,7 +18,7 @@ use Rattle.reader.specs.Front.{burstNumberIn, droppedIn, entriesAt, entryAt, fr
 use Rattle.reader.proofs.Rules.{front}
 use Rattle.listing.specs.declared.Listed.{Listed}
 use Rattle.listing.specs.Text.{ascii}
-use Rattle.listing.specs.Listing.{textRoom, field, frontLines, headLines, listAnswer, listRefusal, listOutput, listing, shotLine, shotLines}
+use Rattle.listing.specs.Listing.{textRoom, field, frontLines, headLines, listAnswer, listRefusal, listOutput, listing, shotLine, shotLines, maxListed}
 use Rattle.listing.proofs.Puts.{Put, field-length, put-then}
 
 -- ---- lengths
@@ -82,7 +82,8 @@ module _ (f : Bytes) (left position : ℕ) where
     both =
         let s = shots-length left (position + 12) f in
         let l = shot-length (e .shot .0) (e .offset) (e .length) in
-        put-then o o₁ _ (lineOf e) (shotLines (entriesAt left (position + 12) f)) at i _ (omega (arith, s, l)) (record { index = ei; bytes = e₁ }) (record { index = refl; bytes = refl })
+        put-then o o₁ _ (lineOf e) (shotLines (entriesAt left (position + 12) f)) at i _ (omega (arith, s, l)) (record { index = ei; bytes = e₁ })
+        (record { index = refl; bytes = refl })
 
     here : lineOf e ++ shotLines (entriesAt left (position + 12) f) ≡ shotLines (entriesAt (suc left) position f)
     here = ap (λ (e : Entry). lineOf e ++ shotLines (entriesAt left (position + 12) f)) ee ∙ sym more-shots
@@ -94,18 +95,18 @@ module _ (f : Bytes) (left position : ℕ) where
     shots-index = both .index ∙ ap (λ (v : Bytes). at + length v) here
 
 -- ---- the text, from the tests
-pub long-listing : (f : Bytes) → 65536 < length f → ascii "front too long\n" ≡ listing f
+pub long-listing : (f : Bytes) → maxListed < length f → ascii "front too long\n" ≡ listing f
 unfolding listing
-long-listing f h = sym (simp (lt-ltb 65536 (length f) h))
+long-listing f h = sym (simp (lt-ltb maxListed (length f) h))
 
-module _ (f : Bytes) (h : length f ≤ 65536) where
+module _ (f : Bytes) (h : length f ≤ maxListed) where
   pub broken-listing : frontRules f ≡ false → ascii "front 12\n" ≡ listing f
   unfolding listing
-  broken-listing e = sym (simp (le-ltb 65536 (length f) h, e))
+  broken-listing e = sym (simp (le-ltb maxListed (length f) h, e))
 
   pub front-listing : frontRules f ≡ true → frontLines f ≡ listing f
   unfolding listing
-  front-listing e = sym (simp (le-ltb 65536 (length f) h, e))
+  front-listing e = sym (simp (le-ltb maxListed (length f) h, e))
 
 -- head and shots touch
 pub front-put : (f : Bytes) (h : Header) → h ≡ headerIn f → (o o₁ o₂ : Bytes) (i r : ℕ) → textRoom ≤ length o → h .kept .0 ≤ maxEntries
@@ -117,14 +118,15 @@ front-put f h eh o o₁ o₂ i r ho hk ei e₁ er e₂ =
     let A : Bytes = headLines (h .«burst_number») (h .taken .0) (h .kept .0) (h .dropped) in
     let a = head-length (h .«burst_number») (h .taken .0) (h .kept .0) (h .dropped) in
     let s = shots-length (h .kept .0) (h .index) f in
-    let p = put-then o o₁ o₂ A (shotLines (entriesAt (h .kept .0) (h .index) f)) 0 i r (omega (arith, a, s)) (record { index = ei ∙ sym (zero-add _); bytes = e₁ }) (record { index = er; bytes = e₂ }) in
+    let p = put-then o o₁ o₂ A (shotLines (entriesAt (h .kept .0) (h .index) f)) 0 i r (omega (arith, a, s)) (record { index = ei ∙ sym (zero-add _); bytes = e₁ })
+    (record { index = er; bytes = e₂ }) in
     let e = ap (λ (h : Header). headLines (h .«burst_number») (h .taken .0) (h .kept .0) (h .dropped) ++ shotLines (entriesAt (h .kept .0) (h .index) f)) eh in
     (p .index ∙ zero-add _ ∙ ap length e, p .bytes ∙ ap (putBytes o 0) e)
 
 -- ---- every text has room
 pub listing-length : (f : Bytes) → length (listing f) ≤ textRoom
 unfolding listing frontLines
-listing-length f = by (ltb 65536 (length f)) (frontRules f) refl
+listing-length f = by (ltb maxListed (length f)) (frontRules f) refl
   where
     by : (a b : Bool) → frontRules f ≡ b → length (cond a (ascii "front too long\n") (cond b (frontLines f) (ascii "front 12\n"))) ≤ textRoom
     by true b e = omega arith
@@ -159,6 +161,6 @@ module _ (f o : Bytes) where
       by true = listing-length f
       by false = omega arith
 
-  pub told-number : (r : Listed) → r ≡ listAnswer f o → r .refusal ≡ listRefusal f o
+  pub told-refusal : (r : Listed) → r ≡ listAnswer f o → r .refusal ≡ listRefusal f o
   unfolding listAnswer
-  told-number r e = ap (λ (r : Listed). r .refusal) e
+  told-refusal r e = ap (λ (r : Listed). r .refusal) e

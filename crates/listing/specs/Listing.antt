@@ -29,9 +29,9 @@ headLines burstNumber taken kept dropped =
     ++ (field (ascii "\ntaken ") taken ++ (field (ascii " kept ") kept ++ (field (ascii " dropped ") dropped ++ ascii "\n")))
 
 -- a kept picture: shot number, record offset, picture length
-unfoldable pub shotLine : (shot offset length : ℕ) → Bytes
-shotLine shot offset l =
-    field (ascii "shot ") shot ++ (field (ascii " at ") offset ++ (field (ascii " length ") l ++ ascii "\n"))
+unfoldable pub shotLine : (shot offset count : ℕ) → Bytes
+shotLine shot offset count =
+    field (ascii "shot ") shot ++ (field (ascii " at ") offset ++ (field (ascii " length ") count ++ ascii "\n"))
 
 unfoldable pub shotLines : List Entry → Bytes
 shotLines [] = []

@@ -21,6 +21,10 @@ abbrev pub digitsBefore : ℕ → ℕ → Bytes → Bytes
 digitsBefore zero n after = after
 digitsBefore (suc k) n after = cond (ltb n 10) (list._∷_ (digit n) after) (digitsBefore k (n / 10) (list._∷_ (digit (n % 10)) after))
 
--- a number below 2^64 in decimal digits, with no zero in front
+-- a number below 2^64 has at most so many digits
+abbrev pub maxDigits : ℕ
+maxDigits = 20
+
+-- such a number in decimal digits, with no zero in front
 unfoldable pub decimal : ℕ → Bytes
-decimal n = digitsBefore 20 n list.[]
+decimal n = digitsBefore maxDigits n list.[]

@@ -7,10 +7,10 @@ ghost use mathlib.Core.Path.{_≡_};
 ghost use Prim.Native.Nat.{_+_, _*_, _≤_};
 ghost use lib.ListN.{length, drop};
 ghost use Rattle.bytes_le.specs.Bytes.{putBytes};
+ghost use Rattle.burst.specs.Fields.{entryLength};
 ghost use Rattle.burst.specs.Editions.{maxEntries};
-ghost use Rattle.burst.specs.Layout.{entryLength};
 ghost use Rattle.reader.specs.Front.{entriesAt};
-ghost use Rattle.listing.specs.Text.{decimal};
+ghost use Rattle.listing.specs.Text.{decimal, maxDigits};
 ghost use Rattle.listing.specs.Listing.{field, headLines, shotLine, shotLines, listing, textRoom, listAnswer, listOutput};
 
 // The longest file that is listed.
@@ -31,15 +31,15 @@ pub struct Listed {
 
 // Decimal digits: those from `start` on.
 struct Digits {
-    bytes: [u8; 20],
+    bytes: [u8; MAX_DIGITS],
     start: usize,
 }
 
 // The digits of a number, from the last to the first.
 fn digits_of(n: u64) -> Digits
-    ensures { λ r. ⌜ (drop (r .start) (r .bytes) ≡ decimal n) × (r .start ≤ 20) × (length (r .bytes) ≡ 20) ⌝ }
+    ensures { λ r. ⌜ (drop (r .start) (r .bytes) ≡ decimal n) × (r .start ≤ maxDigits) × (length (r .bytes) ≡ maxDigits) ⌝ }
 {
-    let mut bytes = [0u8; 20];
+    let mut bytes = [0u8; MAX_DIGITS];
     let mut i = MAX_DIGITS;
     let mut rest = n;
     while 0 < i {
@@ -56,14 +56,14 @@ fn digits_of(n: u64) -> Digits
 
 // Puts a word and a number into out from index at on; returns the index behind them.
 fn put_field(out: &mut [u8], at: usize, word: &[u8], n: u64) -> usize
-    requires { ⌜ at + (length (now word) + 20) ≤ length (now out) ⌝ }
+    requires { ⌜ at + (length (now word) + maxDigits) ≤ length (now out) ⌝ }
     ensures { λ r. ⌜ (r ≡ at + length (field (now (word .entry)) n)) × (now (out .exit) ≡ putBytes (now (out .entry)) at (field (now (word .entry)) n)) ⌝ }
 {
     let i = bytes_le::put_bytes(out, at, word);
     let d = digits_of(n);
     let bytes = d.bytes;
     let start = d.start;
-    bytes_le::put_bytes(out, i, &bytes[start..20])
+    bytes_le::put_bytes(out, i, &bytes[start..MAX_DIGITS])
 }
 
 // The lines of burst and counts, at the front of out.
@@ -79,13 +79,13 @@ fn put_head(out: &mut [u8], burst_number: u64, taken: u64, kept: u64, dropped: u
 }
 
 // The line of a kept picture.
-fn put_shot(out: &mut [u8], at: usize, shot: u64, offset: u64, size: u64) -> usize
+fn put_shot(out: &mut [u8], at: usize, shot: u64, offset: u64, count: u64) -> usize
     requires { ⌜ at + 78 ≤ length (now out) ⌝ }
-    ensures { λ r. ⌜ (r ≡ at + length (shotLine shot offset size)) × (now (out .exit) ≡ putBytes (now (out .entry)) at (shotLine shot offset size)) ⌝ }
+    ensures { λ r. ⌜ (r ≡ at + length (shotLine shot offset count)) × (now (out .exit) ≡ putBytes (now (out .entry)) at (shotLine shot offset count)) ⌝ }
 {
     let i = put_field(out, at, b"shot ", shot);
     let j = put_field(out, i, b" at ", offset);
-    let k = put_field(out, j, b" length ", size);
+    let k = put_field(out, j, b" length ", count);
     bytes_le::put_bytes(out, k, b"\n")
 }
 
@@ -137,18 +137,18 @@ pub fn list_front(f: &[u8], out: &mut [u8]) -> Listed
     ensures { λ r. ⌜ (r ≡ listAnswer (now (f .entry)) (now (out .entry))) × (now (out .exit) ≡ listOutput (now (f .entry)) (now (out .entry))) ⌝ }
 {
     let mut text = [0u8; TEXT_ROOM];
-    let length = put_listing(f, &mut text);
-    if out.len() < length {
+    let count = put_listing(f, &mut text);
+    if out.len() < count {
         return Listed {
             refusal: OUTPUT_TOO_SHORT,
             mark: 0,
             length: 0,
         };
     }
-    bytes_le::put_bytes(out, 0, &text[..length]);
+    bytes_le::put_bytes(out, 0, &text[..count]);
     Listed {
         refusal: 0,
         mark: 0,
-        length,
+        length: count,
     }
 }

@@ -19,8 +19,9 @@ use Rattle.reader.specs.declared.Verdict.the-variants.{Agree, Differs}
 use Rattle.reader.specs.Verdicts.{verdictNumber, verdictMark}
 use Rattle.reader.specs.Front.{headerIn, keptIn, indexOffsetIn, entryAt, positionOf, frontRules}
 use Rattle.reader.specs.Reader.{closingPart, recordPart, recordParts, agrees, markIn, bodyIn, sealedIn, verdictOn, verdict, notChecked, notFetched, checkRefusal, checkMark, checkAnswer, recordRefusal, locateAnswer, recordOffset, recordBytesIn, fetchRefusal, fetchAnswer, fetchOutput}
+use Rattle.burst.specs.Parts.{keyLength}
 use Rattle.reader.proofs.Rules.{Front, front, InRange, in-range-at}
-use Rattle.reader.proofs.Parts.{first-agrees, all-agree}
+use Rattle.reader.proofs.Parts.{agree, first-agrees, all-agree}
 
 -- ---- check
 module _ (key f : Bytes) where
@@ -35,14 +36,14 @@ module _ (key f : Bytes) where
   unfolding checkAnswer
   check-not num mark h r = sym (simp (r .0, r .1, ne-eqb num 0 h))
 
-  pub check-1 : (length key ≡ 16 → ⊥) → notChecked 1 0 ≡ checkAnswer key f
+  pub check-1 : (length key ≡ keyLength → ⊥) → notChecked 1 0 ≡ checkAnswer key f
   unfolding checkRefusal checkMark
-  check-1 h = check-not 1 0 (λ e. omega arith) (simp (ne-eqb (length key) 16 h), simp (ne-eqb (length key) 16 h))
+  check-1 h = check-not 1 0 (λ e. omega arith) (simp (ne-eqb (length key) keyLength h), simp (ne-eqb (length key) keyLength h))
 
-  module _ (hk : length key ≡ 16) where
+  module _ (hk : length key ≡ keyLength) where
     pub check-12 : frontRules f ≡ false → notChecked 12 0 ≡ checkAnswer key f
     unfolding checkRefusal checkMark
-    check-12 h = check-not 12 0 (λ e. omega arith) (simp (eq-eqb (length key) 16 hk, h), simp (eq-eqb (length key) 16 hk, h))
+    check-12 h = check-not 12 0 (λ e. omega arith) (simp (eq-eqb (length key) keyLength hk, h), simp (eq-eqb (length key) keyLength hk, h))
 
     module _ (hf : frontRules f ≡ true) where
       -- a verdict with a number
@@ -50,7 +51,7 @@ module _ (key f : Bytes) where
       unfolding checkRefusal checkMark
       by-verdict Agree d h = absurd (h refl)
       by-verdict (Differs shot) d h =
-          check-not 7 (shot .0) h (simp (eq-eqb (length key) 16 hk, hf, d), simp (eq-eqb (length key) 16 hk, hf, d))
+          check-not 7 (shot .0) h (simp (eq-eqb (length key) keyLength hk, hf, d), simp (eq-eqb (length key) keyLength hk, hf, d))
 
       pub check-closing : agrees key f (closingPart f) ≡ false → notChecked 7 0 ≡ checkAnswer key f
       unfolding verdict verdictOn
@@ -67,7 +68,7 @@ module _ (key f : Bytes) where
         module _ (hr : Records ≡ Agree) where
           pub check-zero : checkRefusal key f ≡ 0
           unfolding checkRefusal
-          check-zero = simp (eq-eqb (length key) 16 hk, hf, all-records, hr)
+          check-zero = simp (eq-eqb (length key) keyLength hk, hf, all-records, hr)
 
           pub check-0 : (h : Header) → h ≡ headerIn f → (site : Bytes) → site ≡ markIn key f (closingPart f)
               → record { refusal = 0; mark = 0; «burst_number» = h .«burst_number»; «site_mark» = site; taken = h .taken; kept = h .kept; dropped = h .dropped } ≡ checkAnswer key f
@@ -78,9 +79,9 @@ module _ (key f : Bytes) where
 
 -- what check answers, field by field
 module _ (key f : Bytes) (c : Checked) (is : c ≡ checkAnswer key f) where
-  pub checked-number : c .refusal ≡ checkRefusal key f
+  pub checked-refusal : c .refusal ≡ checkRefusal key f
   unfolding checkAnswer
-  checked-number = ap (λ (x : Checked). x .refusal) is
+  checked-refusal = ap (λ (x : Checked). x .refusal) is
 
   pub checked-mark : c .mark ≡ checkMark key f
   unfolding checkAnswer
@@ -88,7 +89,7 @@ module _ (key f : Bytes) (c : Checked) (is : c ≡ checkAnswer key f) where
 
   module _ (z : c .refusal ≡ 0) where
     zero-is : checkRefusal key f ≡ 0
-    zero-is = sym checked-number ∙ z
+    zero-is = sym checked-refusal ∙ z
 
     pub checked-kept : c .kept .0 ≡ keptIn f
     unfolding checkAnswer
@@ -96,7 +97,7 @@ module _ (key f : Bytes) (c : Checked) (is : c ≡ checkAnswer key f) where
 
 -- ---- what an accepted file obeys
 pub record Accepted (key f : Bytes) : Type 0 where
-  pub key16 : length key ≡ 16
+  pub key16 : length key ≡ keyLength
   pub front : Front f
   pub closing : agrees key f (closingPart f) ≡ true
   pub records : verdictOn key f (recordParts (keptIn f) (indexOffsetIn f) f) ≡ Agree
@@ -106,14 +107,10 @@ first-passed : (n rest : ℕ) → cond (not (eqb n 0)) n rest ≡ 0 → (n ≡ 0
 first-passed zero rest h = (refl, h)
 first-passed (suc n) rest h = let z : suc n ≡ 0 = simp (ne-eqb (suc n) 0 (λ i. omega arith)) at h in absurd (omega arith)
 
-pub agree : (v : Verdict) → verdictNumber v ≡ 0 → v ≡ Agree
-agree Agree h = refl
-agree (Differs shot) h = absurd (omega arith)
-
 pub accepted : (key f : Bytes) → checkRefusal key f ≡ 0 → Accepted key f
 unfolding checkRefusal verdict
 accepted key f h =
-    let p₁ = passed (not (eqb (length key) 16)) _ _ h in
+    let p₁ = passed (not (eqb (length key) keyLength)) _ _ h in
     let p₁₂ = passed (not (frontRules f)) _ _ (p₁ .1) in
     let p₇ = first-passed (verdictNumber (verdict key f)) _ (p₁₂ .1) in
     let d = first-agrees key f (closingPart f) (recordParts (keptIn f) (indexOffsetIn f) f) (agree (verdict key f) (p₇ .0)) in
@@ -171,9 +168,9 @@ module _ (key f : Bytes) (place : ℕ) where
 
   -- what locate answers, field by field
   module _ (l : Located) (is : l ≡ locateAnswer key f place) where
-    pub located-number : l .refusal ≡ recordRefusal key f place
+    pub located-refusal : l .refusal ≡ recordRefusal key f place
     unfolding locateAnswer
-    located-number = ap (λ (x : Located). x .refusal) is
+    located-refusal = ap (λ (x : Located). x .refusal) is
 
     pub located-mark : l .mark ≡ checkMark key f
     unfolding locateAnswer
@@ -181,7 +178,7 @@ module _ (key f : Bytes) (place : ℕ) where
 
     module _ (z : l .refusal ≡ 0) where
       none-refused : recordRefusal key f place ≡ 0
-      none-refused = sym located-number ∙ z
+      none-refused = sym located-refusal ∙ z
 
       pub located-found : Found key f place
       located-found = found none-refused
@@ -202,14 +199,9 @@ module _ (key f : Bytes) (place : ℕ) where
 
   -- fetch
   module _ (out : Bytes) where
-    beyond : (a b : Bool) (n rest num : ℕ) → cond a n (cond b 13 0) ≡ suc num → cond a n (cond b 13 rest) ≡ suc num
-    beyond true b n rest num h = h
-    beyond false true n rest num h = h
-    beyond false false n rest num h = absurd (omega arith)
-
     pub fetch-stands : (num : ℕ) → recordRefusal key f place ≡ suc num → fetchRefusal key f place out ≡ suc num
-    unfolding recordRefusal fetchRefusal
-    fetch-stands num h = beyond (not (eqb (checkRefusal key f) 0)) (leb (keptIn f) place) (checkRefusal key f) _ num h
+    unfolding fetchRefusal
+    fetch-stands num h = simp (h, ne-eqb (suc num) 0 (λ i. omega arith))
 
     pub fetch-not : (num mark : ℕ) → fetchRefusal key f place out ≡ suc num → checkMark key f ≡ mark
         → (notFetched (suc num) mark ≡ fetchAnswer key f place out) × (out ≡ fetchOutput key f place out)
@@ -226,7 +218,7 @@ module _ (key f : Bytes) (place : ℕ) where
     module _ (w : Found key f place) where
       decides : (b : Bool) → ltb (length out) (entryAt f (positionOf f place) .length) ≡ b → fetchRefusal key f place out ≡ cond b 5 0
       unfolding fetchRefusal
-      decides b h = simp (w .zero, lt-leb (keptIn f) place (w .below), h)
+      decides b h = simp (record-zero (w .zero) (w .below), h)
 
       pub fetch-5 : length out < entryAt f (positionOf f place) .length
           → (notFetched 5 0 ≡ fetchAnswer key f place out) × (out ≡ fetchOutput key f place out)
@@ -243,6 +235,10 @@ module _ (key f : Bytes) (place : ℕ) where
 
     -- what fetch answers, field by field
     module _ (r : Fetched) (is : r ≡ fetchAnswer key f place out) where
+      pub fetched-refusal : r .refusal ≡ fetchRefusal key f place out
+      unfolding fetchAnswer
+      fetched-refusal = ap (λ (x : Fetched). x .refusal) is
+
       pub fetched-mark : r .mark ≡ checkMark key f
       unfolding fetchAnswer
       fetched-mark = ap (λ (x : Fetched). x .mark) is

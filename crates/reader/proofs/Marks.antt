@@ -12,15 +12,11 @@ use Rattle.reader.specs.declared.Verdict.the-variants.{Agree, Differs}
 use Rattle.reader.specs.Verdicts.{verdictNumber, verdictMark}
 use Rattle.reader.specs.Front.{keptIn, indexOffsetIn, entryAt, positionOf}
 use Rattle.reader.specs.Reader.{closingPart, recordPart, recordParts, agrees, verdictOn, verdict}
-use Rattle.reader.proofs.Parts.{parts-end, parts-next, parts-differ, all-agree, first-agrees}
+use Rattle.reader.proofs.Parts.{agree, parts-end, parts-next, parts-differ, all-agree, first-agrees}
 
 pub seven : (v : Verdict) → (verdictNumber v ≡ 0 → ⊥) → verdictNumber v ≡ 7
 seven Agree h = absurd (h refl)
 seven (Differs s) h = refl
-
-agree-of : (v : Verdict) → verdictNumber v ≡ 0 → v ≡ Agree
-agree-of Agree h = refl
-agree-of (Differs s) h = absurd (omega arith)
 
 module _ (key f : Bytes) where
   abbrev at : ℕ → Bool
@@ -36,7 +32,8 @@ module _ (key f : Bytes) where
   next-place : (position j : ℕ) → position + 12 + 12 * j ≡ position + 12 * suc j
   next-place position j = omega arith
 
-  differs-step : (n position : ℕ) (b : Bool) → at position ≡ b → ((number n (position + 12) ≡ 0 → ⊥) → Somewhere n (position + 12)) → (number (suc n) position ≡ 0 → ⊥) → Somewhere (suc n) position
+  differs-step : (n position : ℕ) (b : Bool) → at position ≡ b → ((number n (position + 12) ≡ 0 → ⊥) → Somewhere n (position + 12)) → (number (suc n) position ≡ 0 → ⊥)
+      → Somewhere (suc n) position
   differs-step n position true e more h =
       let r = more (λ z. h (ap verdictNumber (parts-next key f n position e) ∙ z)) in
       let l = r .1 in
@@ -87,7 +84,7 @@ module _ (key f : Bytes) where
 
   all-as-said : verdictNumber (verdict key f) ≡ 0 → (closing ≡ true) × (verdictOn key f (recordParts (keptIn f) (indexOffsetIn f) f) ≡ Agree)
   unfolding verdict
-  all-as-said h = first-agrees key f (closingPart f) (recordParts (keptIn f) (indexOffsetIn f) f) (agree-of (verdict key f) h)
+  all-as-said h = first-agrees key f (closingPart f) (recordParts (keptIn f) (indexOffsetIn f) f) (agree (verdict key f) h)
 
   pub agreeing : verdictNumber (verdict key f) ≡ 0 → SomeDiffers → ⊥
   agreeing h (inl d) = clash closing (all-as-said h .0) d

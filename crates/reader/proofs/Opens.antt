@@ -13,8 +13,8 @@ use Rattle.icepole.specs.declared.Opened.{Opened}
 use Rattle.burst.specs.declared.Edition.{Edition}
 use Rattle.burst.specs.declared.Entry.{Entry}
 use Rattle.burst.specs.declared.Name.{Name}
+use Rattle.burst.specs.Fields.{entryLength}
 use Rattle.burst.specs.Parts.{sealLength, partAnswer, partOutput}
-use Rattle.burst.specs.Layout.{entryLength}
 use Rattle.burst.proofs.Parts.{answer-agrees, answer-stands, answer-differs, answer-mark, part-output}
 use Rattle.reader.specs.declared.Header.{Header}
 use Rattle.reader.specs.Front.{editionIn, nameIn, headerIn, keptIn, indexOffsetIn, entryAt}

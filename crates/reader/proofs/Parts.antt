@@ -9,7 +9,12 @@ use Rattle.bytes_le.specs.Bytes.{Bytes}
 use Rattle.burst.specs.declared.Shot.{Shot}
 use Rattle.reader.specs.declared.Verdict.{Verdict}
 use Rattle.reader.specs.declared.Verdict.the-variants.{Agree, Differs}
+use Rattle.reader.specs.Verdicts.{verdictNumber}
 use Rattle.reader.specs.Reader.{Part, recordPart, recordParts, agrees, verdictOn}
+
+pub agree : (v : Verdict) → verdictNumber v ≡ 0 → v ≡ Agree
+agree Agree h = refl
+agree (Differs shot) h = absurd (omega arith)
 
 module _ (key f : Bytes) where
   pub parts-end : (position : ℕ) → verdictOn key f (recordParts 0 position f) ≡ Agree

@@ -1,21 +1,24 @@
 -- The front rules as facts, and what they tell of every entry.
 -- Assumes nothing.
 use mathlib.Core.Bool.{Bool, true, false, _&&_}
-use mathlib.Core.Path.{_≡_, sym, ap, subst, _∙_}
+use mathlib.Core.List.{List, [], _∷_, _++_}
+use mathlib.Core.Path.{_≡_, sym, ap, ap₂, subst, _∙_}
 use Prim.Native.Nat.{ℕ, zero, suc, _+_, _*_, _≤_, _<_}
 use native.Mathlib.Omega.{arith}
 use native.Mathlib.Numerals.{add-one}
 use borrow.Author.Tests.{le-leb, eq-eqb, ne-eqb, leb-true, eqb-true}
 use lib.Dec.{eqb, leb}
-use lib.ListN.{length, take, drop, getD, length-take, drop-of-length-le}
-use lib.Seq.{slice-cons}
+use lib.ListN.{length, take, drop, getD, set, length-take, drop-of-length-le}
+use lib.Seq.{slice-cons, take-suc-set}
 use Rattle.bytes_le.specs.Bytes.{Bytes}
 use Rattle.burst.specs.declared.Edition.{Edition}
+use Rattle.burst.specs.declared.Entry.{Entry}
 use Rattle.burst.specs.Editions.{Known}
+use Rattle.burst.specs.Layout.{maxPicture}
 use Rattle.burst.specs.Numbers.{usedAfter}
-use Rattle.burst.specs.Index.{entryRules, indexRules}
+use Rattle.burst.specs.Index.{indexRules}
 use Rattle.burst.proofs.Rows.{numbered-known}
-use Rattle.burst.proofs.Rules.{and-true, Obeys, index-end, index-next, index-fault, index-obeys, index-used}
+use Rattle.burst.proofs.Rules.{and-true, Obeys, index-end, index-obeys, index-used}
 use Rattle.reader.specs.declared.Header.{Header}
 use Rattle.reader.specs.Front.{headerIn, editionNumberIn, takenIn, keptIn, droppedIn, pictureOffsetIn, indexOffsetIn, closingOffsetIn, totalIn, entryAt, entriesAt, editionIn, allZero, restRules, frontRulesOf, frontRules}
 
@@ -92,18 +95,26 @@ pub front-at : (e : Edition) (f : Bytes) → e ≡ editionIn f → frontRulesOf 
 unfolding frontRules
 front-at e f own = ap (λ (x : Edition). frontRulesOf x f) own
 
--- ---- a turn over the entries of a file
+-- ---- the entries of a file
+-- one more entry
+entries-snoc : (n position : ℕ) (f : Bytes) → entriesAt (suc n) position f ≡ entriesAt n position f ++ (entryAt f (position + 12 * n) ∷ [])
+unfolding entriesAt
+entries-snoc zero position f = ap (λ (i : ℕ). entryAt f i ∷ []) (omega arith)
+entries-snoc (suc n) position f =
+    ap (λ (es : List Entry). entryAt f position ∷ es)
+    (entries-snoc n (position + 12) f ∙ ap (λ (i : ℕ). entriesAt n (position + 12) f ++ (entryAt f i ∷ [])) (omega arith))
+
+-- a turn of reading them into an array
+pub read-turn : (es : List Entry) (f : Bytes) (start i : ℕ) (x : Entry) → i < length es → x ≡ entryAt f (start + 12 * i) → take i es ≡ entriesAt i start f
+    → take (i + 1) (set es i x) ≡ entriesAt (i + 1) start f
+read-turn es f start i x h e inv =
+    ap (λ (k : ℕ). take k (set es i x)) (add-one i)
+    ∙ take-suc-set es i x h
+    ∙ ap₂ (λ (l : List Entry) (y : Entry). l ++ (y ∷ [])) inv e
+    ∙ sym (entries-snoc i start f)
+    ∙ ap (λ (k : ℕ). entriesAt k start f) (sym (add-one i))
+
 module _ (f : Bytes) (last offset taken end left position : ℕ) where
-  pub entries-next : entryRules last offset taken (entryAt f position) ≡ true
-      → indexRules last offset taken end (entriesAt (suc left) position f)
-      ≡ indexRules (entryAt f position .shot .0) (usedAfter offset (entryAt f position .length)) taken end (entriesAt left (position + 12) f)
-  unfolding entriesAt
-  entries-next h = index-next last offset taken end (entryAt f position) (entriesAt left (position + 12) f) h
-
-  pub entries-fault : entryRules last offset taken (entryAt f position) ≡ false → indexRules last offset taken end (entriesAt (suc left) position f) ≡ false
-  unfolding entriesAt
-  entries-fault h = index-fault last offset taken end (entryAt f position) (entriesAt left (position + 12) f) h
-
   pub entries-obey : indexRules last offset taken end (entriesAt (suc left) position f) ≡ true
       → Obeys last offset taken (entryAt f position)
       × (indexRules (entryAt f position .shot .0) (usedAfter offset (entryAt f position .length)) taken end (entriesAt left (position + 12) f) ≡ true)
@@ -117,7 +128,7 @@ entries-end f last offset taken end position = index-end last offset taken end
 -- ---- every entry's record lies before the end
 pub record InRange (f : Bytes) (position end : ℕ) : Type 0 where
   pub least : 1 ≤ entryAt f position .length
-  pub most : entryAt f position .length ≤ 1048576
+  pub most : entryAt f position .length ≤ maxPicture
   pub within : entryAt f position .offset + (entryAt f position .length + 32) ≤ end
 
 pub in-range : (f : Bytes) (n position last offset taken end j : ℕ) → indexRules last offset taken end (entriesAt n position f) ≡ true → j < n

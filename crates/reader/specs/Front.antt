@@ -10,39 +10,40 @@ use Rattle.burst.specs.declared.Entry.{Entry}
 use Rattle.reader.specs.declared.Header.{Header}
 use Rattle.burst.specs.declared.Edition.{Edition}
 use Rattle.burst.specs.declared.Name.{Name}
-use Rattle.burst.specs.Editions.{fieldsLength, numbered}
+use Rattle.burst.specs.Fields.{countWidth, offsetWidth, burstNumberWidth, editionAt, takenAt, keptAt, droppedAt, burstNumberAt, pictureOffsetAt, indexOffsetAt, closingOffsetAt, totalAt, fieldsLength, zerosAt, recordOffsetAt, pictureLengthAt, entryLength}
+use Rattle.burst.specs.Editions.{numbered}
 use Rattle.burst.specs.Parts.{sealLength}
-use Rattle.burst.specs.Layout.{entryLength, closingOffset}
+use Rattle.burst.specs.Layout.{closingOffset}
 use Rattle.burst.specs.Numbers.{totalFrom}
 use Rattle.burst.specs.Index.{indexRules}
 
 -- ---- the header's numbers
 abbrev pub editionNumberIn : Bytes → ℕ
-editionNumberIn f = leAt 2 f 0
+editionNumberIn f = leAt countWidth f editionAt
 
 abbrev pub takenIn : Bytes → ℕ
-takenIn f = leAt 2 f 2
+takenIn f = leAt countWidth f takenAt
 
 abbrev pub keptIn : Bytes → ℕ
-keptIn f = leAt 2 f 4
+keptIn f = leAt countWidth f keptAt
 
 abbrev pub droppedIn : Bytes → ℕ
-droppedIn f = leAt 2 f 6
+droppedIn f = leAt countWidth f droppedAt
 
 abbrev pub burstNumberIn : Bytes → ℕ
-burstNumberIn f = leAt 8 f 8
+burstNumberIn f = leAt burstNumberWidth f burstNumberAt
 
 abbrev pub pictureOffsetIn : Bytes → ℕ
-pictureOffsetIn f = leAt 4 f 16
+pictureOffsetIn f = leAt offsetWidth f pictureOffsetAt
 
 abbrev pub indexOffsetIn : Bytes → ℕ
-indexOffsetIn f = leAt 4 f 20
+indexOffsetIn f = leAt offsetWidth f indexOffsetAt
 
 abbrev pub closingOffsetIn : Bytes → ℕ
-closingOffsetIn f = leAt 4 f 24
+closingOffsetIn f = leAt offsetWidth f closingOffsetAt
 
 abbrev pub totalIn : Bytes → ℕ
-totalIn f = leAt 4 f 28
+totalIn f = leAt offsetWidth f totalAt
 
 -- the file's edition, the row of that number
 abbrev pub editionIn : Bytes → Edition
@@ -70,10 +71,10 @@ headerIn f = record {
 -- the entry that stands at a position of the file
 abbrev pub entryAt : Bytes → ℕ → Entry
 entryAt f position = record {
-  shot = record { 0 = leAt 2 f position };
-  zeros = leAt 2 f (position + 2);
-  offset = leAt 4 f (position + 4);
-  length = leAt 4 f (position + 8);
+  shot = record { 0 = leAt countWidth f position };
+  zeros = leAt countWidth f (position + zerosAt);
+  offset = leAt offsetWidth f (position + recordOffsetAt);
+  length = leAt offsetWidth f (position + pictureLengthAt);
 }
 
 -- the position of the entry of a place

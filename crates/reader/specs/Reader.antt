@@ -8,8 +8,9 @@ use lib.ListN.{length, take, drop, replicate}
 use Rattle.bytes_le.specs.Bytes.{Bytes, putBytes}
 use Rattle.icepole.specs.declared.Opened.{Opened}
 use Rattle.icepole.specs.Answers.{refusal, _when_, unless}
-use Rattle.burst.specs.Parts.{sealLength, partAgrees, partMark, partBody, partAnswer}
-use Rattle.burst.specs.Layout.{entryLength, closingOffset}
+use Rattle.burst.specs.Fields.{entryLength}
+use Rattle.burst.specs.Parts.{sealLength, partAgrees, partMark, partBody, partAnswer, keyLength, markLength}
+use Rattle.burst.specs.Layout.{closingOffset}
 use Rattle.reader.specs.declared.Checked.{Checked}
 use Rattle.reader.specs.declared.Fetched.{Fetched}
 use Rattle.reader.specs.declared.Located.{Located}
@@ -79,8 +80,8 @@ module _ (key f : Bytes) where
 abbrev pub given : ℕ → ℕ → ℕ
 given num x = cond (eqb num 0) x 0
 
-abbrev pub given16 : ℕ → Bytes → Bytes
-given16 num bytes = cond (eqb num 0) bytes (replicate 16 0)
+abbrev pub givenMark : ℕ → Bytes → Bytes
+givenMark num bytes = cond (eqb num 0) bytes (replicate markLength 0)
 
 -- ---- what a refused call answers
 abbrev pub notChecked : ℕ → ℕ → Checked
@@ -88,14 +89,14 @@ notChecked num mark = record {
   refusal = num;
   mark = mark;
   «burst_number» = 0;
-  «site_mark» = replicate 16 0;
+  «site_mark» = replicate markLength 0;
   taken = record { 0 = 0 };
   kept = record { 0 = 0 };
   dropped = 0;
 }
 
 abbrev pub notFetched : ℕ → ℕ → Fetched
-notFetched num mark = record { refusal = num; mark = mark; shot = record { 0 = 0 }; stamp = replicate 16 0; length = 0 }
+notFetched num mark = record { refusal = num; mark = mark; shot = record { 0 = 0 }; stamp = replicate markLength 0; length = 0 }
 
 -- ---- check
 module _ (key f : Bytes) where
@@ -103,7 +104,7 @@ module _ (key f : Bytes) where
   unfoldable pub checkRefusal : ℕ
   checkRefusal =
       refusal
-      ((1 when not (eqb (length key) 16))
+      ((1 when not (eqb (length key) keyLength))
       ∷ (12 when not (frontRules f))
       ∷ (verdictNumber (verdict key f) when not (eqb (verdictNumber (verdict key f)) 0))
       ∷ [])
@@ -117,7 +118,7 @@ module _ (key f : Bytes) where
     refusal = checkRefusal;
     mark = checkMark;
     «burst_number» = given checkRefusal (burstNumberIn f);
-    «site_mark» = given16 checkRefusal (markIn key f (closingPart f));
+    «site_mark» = givenMark checkRefusal (markIn key f (closingPart f));
     taken = record { 0 = given checkRefusal (takenIn f) };
     kept = record { 0 = given checkRefusal (keptIn f) };
     dropped = given checkRefusal (droppedIn f);
@@ -144,11 +145,11 @@ module _ (key f : Bytes) (place : ℕ) where
   recordBytesIn = cond (eqb recordRefusal 0) (sealedIn key f (recordPart f (positionOf f place))) []
 
   module _ (out : Bytes) where
+    -- record's number, then 5
     unfoldable pub fetchRefusal : ℕ
     fetchRefusal =
         refusal
-        ((checkRefusal key f when not (eqb (checkRefusal key f) 0))
-        ∷ (13 when leb (keptIn f) place)
+        ((recordRefusal when not (eqb recordRefusal 0))
         ∷ (5 when ltb (length out) (entryAt f (positionOf f place) .length))
         ∷ [])
 
@@ -157,7 +158,7 @@ module _ (key f : Bytes) (place : ℕ) where
       refusal = fetchRefusal;
       mark = checkMark key f;
       shot = record { 0 = given fetchRefusal (entryAt f (positionOf f place) .shot .0) };
-      stamp = given16 fetchRefusal (markIn key f (recordPart f (positionOf f place)));
+      stamp = givenMark fetchRefusal (markIn key f (recordPart f (positionOf f place)));
       length = given fetchRefusal (entryAt f (positionOf f place) .length);
     }
 

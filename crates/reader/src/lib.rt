@@ -1,14 +1,32 @@
 // The reader of bursts (01, "Reader"): check, fetch by place, and the sealed record of a place.
+use burst::BURST_NUMBER_AT;
+use burst::BURST_NUMBER_WIDTH;
+use burst::CLOSING_OFFSET_AT;
+use burst::COUNT_WIDTH;
+use burst::DROPPED_AT;
+use burst::EDITION_AT;
 use burst::ENTRY_LENGTH;
 use burst::Edition;
 use burst::Entry;
 use burst::FIELDS_LENGTH;
 use burst::FRONT_BROKEN;
+use burst::INDEX_OFFSET_AT;
+use burst::KEPT_AT;
+use burst::MARK_BYTES;
+use burst::MAX_ENTRIES;
 use burst::NO_SUCH_PLACE;
 use burst::Name;
+use burst::OFFSET_WIDTH;
+use burst::PICTURE_LENGTH_AT;
+use burst::PICTURE_OFFSET_AT;
 use burst::Place;
+use burst::RECORD_OFFSET_AT;
 use burst::SEAL_LENGTH;
 use burst::Shot;
+use burst::TAKEN_AT;
+use burst::TOTAL_AT;
+use burst::ZEROS_AT;
+use icepole::KEY_BYTES;
 use icepole::KEY_LENGTH;
 use icepole::OUTPUT_TOO_SHORT;
 use icepole::Opened;
@@ -16,11 +34,12 @@ use icepole::TAG_DIFFERS;
 ghost use mathlib.Core.Path.{_≡_};
 ghost use mathlib.Core.Bool.{true};
 ghost use Prim.Native.Nat.{_+_, _*_, _≤_, _<_};
-ghost use lib.ListN.{length};
+ghost use lib.ListN.{length, take};
 ghost use Rattle.bytes_le.specs.Bytes.{putBytes};
-ghost use Rattle.burst.specs.Editions.{fieldsLength, maxEntries, maxHeader, Known};
-ghost use Rattle.burst.specs.Parts.{sealLength};
-ghost use Rattle.burst.specs.Layout.{entryLength, maxPicture};
+ghost use Rattle.burst.specs.Fields.{fieldsLength, entryLength};
+ghost use Rattle.burst.specs.Editions.{maxEntries, maxHeader, Known};
+ghost use Rattle.burst.specs.Parts.{sealLength, keyLength};
+ghost use Rattle.burst.specs.Layout.{maxPicture};
 ghost use Rattle.burst.specs.Index.{indexRules};
 ghost use Rattle.reader.specs.Front.{headerIn, keptIn, indexOffsetIn, entryAt, entriesAt, editionIn, nameIn, restRules, frontRules};
 ghost use Rattle.reader.specs.Reader.{closingPart, recordPart, recordParts, agrees, answerIn, markIn, bodyIn, verdictOn, notChecked, notFetched, checkMark, checkAnswer, locateAnswer, recordRefusal, recordOffset, recordBytesIn, fetchAnswer, fetchOutput};
@@ -31,7 +50,7 @@ pub struct Checked {
     pub refusal: u32,
     pub mark: u32,
     pub burst_number: u64,
-    pub site_mark: [u8; 16],
+    pub site_mark: [u8; MARK_BYTES],
     pub taken: Shot,
     pub kept: Place,
     pub dropped: u16,
@@ -49,7 +68,7 @@ pub struct Fetched {
     pub refusal: u32,
     pub mark: u32,
     pub shot: Shot,
-    pub stamp: [u8; 16],
+    pub stamp: [u8; MARK_BYTES],
     pub length: u32,
 }
 
@@ -64,38 +83,42 @@ pub fn entry_at(f: &[u8], position: usize) -> Entry
     requires { ⌜ position + entryLength ≤ length (now f) ⌝ }
     ensures { λ x. ⌜ x ≡ entryAt (now (f .entry)) position ⌝ }
 {
-    let shot = bytes_le::load_le(f, position, 2);
-    let zeros = bytes_le::load_le(f, position + 2, 2);
-    let offset = bytes_le::load_le(f, position + 4, 4);
-    let length = bytes_le::load_le(f, position + 8, 4);
+    let shot = bytes_le::load_le(f, position, COUNT_WIDTH);
+    let zeros = bytes_le::load_le(f, position + ZEROS_AT, COUNT_WIDTH);
+    let offset = bytes_le::load_le(f, position + RECORD_OFFSET_AT, OFFSET_WIDTH);
+    let count = bytes_le::load_le(f, position + PICTURE_LENGTH_AT, OFFSET_WIDTH);
     Entry {
         shot: Shot(shot as u16),
         zeros: zeros as u16,
         offset: offset as u32,
-        length: length as u32,
+        length: count as u32,
     }
 }
 
-// Whether the entries from a position on obey the index rules.
-fn index_ok(f: &[u8], header: u32, kept: Place, start: usize, taken: Shot, end: u32) -> bool
-    requires { ⌜ (start + entryLength * kept .0 ≤ length (now f)) × (kept .0 ≤ maxEntries) × (header ≤ maxHeader) ⌝ }
-    ensures { λ b. ⌜ b ≡ indexRules 0 header (taken .0) end (entriesAt (kept .0) start (now (f .entry))) ⌝ }
+// The entries from a position of the file on, and zeros behind them.
+fn entries_in(f: &[u8], kept: Place, start: usize) -> [Entry; MAX_ENTRIES]
+    requires { ⌜ (start + entryLength * kept .0 ≤ length (now f)) × (kept .0 ≤ maxEntries) ⌝ }
+    ensures { λ es. ⌜ take (kept .0) es ≡ entriesAt (kept .0) start (now (f .entry)) ⌝ }
 {
-    let mut left = kept.0 as usize;
-    let mut position = start;
-    let mut last: u16 = 0;
-    let mut offset = header;
-    while 0 < left {
-        let x = entry_at(f, position);
-        if !burst::entry_ok(Shot(last), offset, taken, x) {
-            return false;
-        }
-        offset = offset + x.length + SEAL_LENGTH;
-        last = x.shot.0;
-        position = position + ENTRY_LENGTH;
-        left = left - 1;
+    let n = kept.0 as usize;
+    let none = burst::no_entry();
+    let mut entries = [none; MAX_ENTRIES];
+    let mut i: usize = 0;
+    while i < n {
+        let x = entry_at(f, start + ENTRY_LENGTH * i);
+        entries[i] = x;
+        i += 1;
     }
-    offset == end
+    entries
+}
+
+// Whether the entries from a position of the file on obey the index rules.
+fn index_ok(f: &[u8], e: Edition, kept: Place, start: u32, taken: Shot) -> bool
+    requires { ⌜ (start + entryLength * kept .0 ≤ length (now f)) × (kept .0 ≤ maxEntries) × (e .header ≤ maxHeader) ⌝ }
+    ensures { λ b. ⌜ b ≡ indexRules 0 (e .header) (taken .0) start (entriesAt (kept .0) start (now (f .entry))) ⌝ }
+{
+    let entries = entries_in(f, kept, start as usize);
+    burst::entries_ok(entries, kept, e.header, taken, start)
 }
 
 // The header's numbers.
@@ -115,15 +138,15 @@ pub fn header_in(f: &[u8]) -> Header
     requires { ⌜ fieldsLength ≤ length (now f) ⌝ }
     ensures { λ h. ⌜ h ≡ headerIn (now (f .entry)) ⌝ }
 {
-    let edition = bytes_le::load_le(f, 0, 2);
-    let taken = bytes_le::load_le(f, 2, 2);
-    let kept = bytes_le::load_le(f, 4, 2);
-    let dropped = bytes_le::load_le(f, 6, 2);
-    let burst_number = bytes_le::load_le(f, 8, 8);
-    let pictures = bytes_le::load_le(f, 16, 4);
-    let index = bytes_le::load_le(f, 20, 4);
-    let closing = bytes_le::load_le(f, 24, 4);
-    let total = bytes_le::load_le(f, 28, 4);
+    let edition = bytes_le::load_le(f, EDITION_AT, COUNT_WIDTH);
+    let taken = bytes_le::load_le(f, TAKEN_AT, COUNT_WIDTH);
+    let kept = bytes_le::load_le(f, KEPT_AT, COUNT_WIDTH);
+    let dropped = bytes_le::load_le(f, DROPPED_AT, COUNT_WIDTH);
+    let burst_number = bytes_le::load_le(f, BURST_NUMBER_AT, BURST_NUMBER_WIDTH);
+    let pictures = bytes_le::load_le(f, PICTURE_OFFSET_AT, OFFSET_WIDTH);
+    let index = bytes_le::load_le(f, INDEX_OFFSET_AT, OFFSET_WIDTH);
+    let closing = bytes_le::load_le(f, CLOSING_OFFSET_AT, OFFSET_WIDTH);
+    let total = bytes_le::load_le(f, TOTAL_AT, OFFSET_WIDTH);
     Header {
         edition: edition as u16,
         taken: Shot(taken as u16),
@@ -212,12 +235,12 @@ pub fn front_ok(f: &[u8]) -> bool
     if !rest_ok(e, f) {
         return false;
     }
-    index_ok(f, e.header, h.kept, index, h.taken, h.index)
+    index_ok(f, e, h.kept, h.index, h.taken)
 }
 
 // Whether the tag agrees of the record whose entry stands at a position.
 fn record_agrees(key: &[u8], f: &[u8], e: Edition, name: Name, position: usize) -> bool
-    requires { ⌜ (length (now key) ≡ 16) × (e ≡ editionIn (now f)) × (name ≡ nameIn (now f)) × (position + entryLength ≤ length (now f)) × (entryAt (now f) position .length ≤ maxPicture)
+    requires { ⌜ (length (now key) ≡ keyLength) × (e ≡ editionIn (now f)) × (name ≡ nameIn (now f)) × (position + entryLength ≤ length (now f)) × (entryAt (now f) position .length ≤ maxPicture)
         × (entryAt (now f) position .offset + (entryAt (now f) position .length + sealLength) ≤ length (now f)) ⌝ }
     ensures { λ b. ⌜ b ≡ agrees (now (key .entry)) (now (f .entry)) (recordPart (now (f .entry)) position) ⌝ }
 {
@@ -247,7 +270,7 @@ fn verify_records(
     kept: Place,
     start: usize,
 ) -> Verdict
-    requires { ⌜ (length (now key) ≡ 16) × (frontRules (now f) ≡ true) × (e ≡ editionIn (now f)) × (name ≡ nameIn (now f)) × (kept .0 ≡ keptIn (now f)) × (start ≡ indexOffsetIn (now f)) ⌝ }
+    requires { ⌜ (length (now key) ≡ keyLength) × (frontRules (now f) ≡ true) × (e ≡ editionIn (now f)) × (name ≡ nameIn (now f)) × (kept .0 ≡ keptIn (now f)) × (start ≡ indexOffsetIn (now f)) ⌝ }
     ensures { λ v. ⌜ v ≡ verdictOn (now (key .entry)) (now (f .entry)) (recordParts (kept .0) start (now (f .entry))) ⌝ }
 {
     let mut left = kept.0 as usize;
@@ -290,7 +313,7 @@ fn not_checked(refusal: u32, mark: u32) -> Checked
         refusal,
         mark,
         burst_number: 0,
-        site_mark: [0u8; 16],
+        site_mark: [0u8; MARK_BYTES],
         taken: Shot(0),
         kept: Place(0),
         dropped: 0,
@@ -299,7 +322,7 @@ fn not_checked(refusal: u32, mark: u32) -> Checked
 
 // Verifies the closing seal; header, then index, are its associated data.
 fn verify_closing(key: &[u8], f: &[u8], e: Edition, name: Name, h: Header) -> Opened
-    requires { ⌜ (length (now key) ≡ 16) × (frontRules (now f) ≡ true) × (e ≡ editionIn (now f)) × (name ≡ nameIn (now f)) × (h ≡ headerIn (now f)) ⌝ }
+    requires { ⌜ (length (now key) ≡ keyLength) × (frontRules (now f) ≡ true) × (e ≡ editionIn (now f)) × (name ≡ nameIn (now f)) × (h ≡ headerIn (now f)) ⌝ }
     ensures { λ r. ⌜ r ≡ answerIn (now (key .entry)) (now (f .entry)) (closingPart (now (f .entry))) ⌝ }
 {
     let n = e.header as usize;
@@ -311,7 +334,7 @@ fn verify_closing(key: &[u8], f: &[u8], e: Edition, name: Name, h: Header) -> Op
 pub fn check(key: &[u8], f: &[u8]) -> Checked
     ensures { λ r. ⌜ r ≡ checkAnswer (now (key .entry)) (now (f .entry)) ⌝ }
 {
-    if key.len() != 16 {
+    if key.len() != KEY_BYTES {
         return not_checked(KEY_LENGTH, 0);
     }
     if !front_ok(f) {
@@ -377,14 +400,14 @@ fn not_fetched(refusal: u32, mark: u32) -> Fetched
         refusal,
         mark,
         shot: Shot(0),
-        stamp: [0u8; 16],
+        stamp: [0u8; MARK_BYTES],
         length: 0,
     }
 }
 
 // Opens the record of the entry x, which stands at a position of the file.
 fn open_record(key: &[u8], f: &[u8], position: usize, x: Entry, out: &mut [u8]) -> Fetched
-    requires { ⌜ (length (now key) ≡ 16) × (editionIn (now f) .header ≤ length (now f)) × (x ≡ entryAt (now f) position) × (agrees (now key) (now f) (recordPart (now f) position) ≡ true)
+    requires { ⌜ (length (now key) ≡ keyLength) × (editionIn (now f) .header ≤ length (now f)) × (x ≡ entryAt (now f) position) × (agrees (now key) (now f) (recordPart (now f) position) ≡ true)
         × (position + entryLength ≤ length (now f)) × (x .offset + (x .length + sealLength) ≤ length (now f)) × (x .length ≤ maxPicture) × (x .length ≤ length (now out)) ⌝ }
     ensures { λ r. ⌜
         (r ≡ record { refusal = 0; mark = 0; shot = x .shot; stamp = markIn (now (key .entry)) (now (f .entry)) (recordPart (now (f .entry)) position); length = x .length }) ×

@@ -90,7 +90,8 @@ first-fits s x h =
     third l (inl e) = let m : 1 ≡ x .1 = ap (λ (y : Call × ℕ). y .1) e in omega arith
     third l (inr g) = fourth g
 
-    second : (length s ≡ 0 → ⊥) → (_≡_ {A = Call × ℕ} (dropShot byValue, 1) x) ⊎ (cond (eqb (leAt 1 s 0) 1) (some (closeBurst, 1)) (cond (eqb (leAt 1 s 0) 2) keep none) ≡ some x) → x .1 ≤ length s
+    second : (length s ≡ 0 → ⊥) → (_≡_ {A = Call × ℕ} (dropShot byValue, 1) x) ⊎ (cond (eqb (leAt 1 s 0) 1) (some (closeBurst, 1)) (cond (eqb (leAt 1 s 0) 2) keep none) ≡ some x)
+        → x .1 ≤ length s
     second l (inl e) = let m : 1 ≡ x .1 = ap (λ (y : Call × ℕ). y .1) e in omega arith
     second l (inr g) = third l (this-or (eqb (leAt 1 s 0) 1) (closeBurst, 1) _ x g)
 

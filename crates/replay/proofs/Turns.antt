@@ -53,7 +53,8 @@ module _ (script : Bytes) (room : ℕ) (r₀ : Recorder) (b₀ a₀ : Bytes) whe
     -- the answer where no call is left: i calls, and whole where the position is the script's end
     pub none-left : scriptCalls (room - i) (drop position script) ≡ [] → scriptRest (room - i) (drop position script) ≡ drop position script → position ≤ length script
         → (p : Performed) → p ≡ record { count = i; whole = eqb position (length script) } → Left r b a position i
-        → (p ≡ record { count = length All; whole = eqb (length (scriptRest room script)) 0 }) × (b ≡ bufferFrom r₀ b₀ All) × (a ≡ putBytes a₀ 0 (answersBytes (answersFrom r₀ b₀ All)))
+        → (p ≡ record { count = length All; whole = eqb (length (scriptRest room script)) 0 }) × (b ≡ bufferFrom r₀ b₀ All)
+        × (a ≡ putBytes a₀ 0 (answersBytes (answersFrom r₀ b₀ All)))
     none-left e f h p ep w =
         let n = w .count in
         let z = ap length e in
@@ -70,7 +71,8 @@ module _ (script : Bytes) (room : ℕ) (r₀ : Recorder) (b₀ a₀ : Bytes) whe
       abbrev cs : List Call
       cs = scriptCalls (room - (i + 1)) (drop (position + x .1) script)
 
-      pub turned : b′ ≡ stepBuffer r b (some x) → i₁ ≡ 8 * i + 4 → a₁ ≡ putBytes a (8 * i) (le 4 (st .refusal)) → a₂ ≡ putBytes a₁ i₁ (le 4 (st .value)) → 8 * room ≤ length a → i < room
+      pub turned : b′ ≡ stepBuffer r b (some x) → i₁ ≡ 8 * i + 4 → a₁ ≡ putBytes a (8 * i) (le 4 (st .refusal)) → a₂ ≡ putBytes a₁ i₁ (le 4 (st .value)) → 8 * room ≤ length a
+          → i < room
           → Left r b a position i → Left (st .recorder) b′ a₂ (st .next) (i + 1)
       turned eb ei e₁ e₂ ha hi w =
           let n = w .count in

@@ -88,7 +88,8 @@ listOf key i buffer answers script = record { key = key; identity = i; bufferLen
 abbrev pub wholeScript : (answers : ℕ) (script : Bytes) → Bool
 wholeScript answers script = cond (ltb answers 8) false (eqb (length (scriptRest (answers / 8 - 1) script)) 0)
 
--- what is left of the answers a, of the buffer b and of the count n. Without room for begin's answer nothing is done. Otherwise the answers are those of the plain burst, begin's first, and after an accepted close the front of the buffer is its file
+-- what is left of the answers a, of the buffer b and of the count n. Without room for begin's answer nothing is done. Otherwise the answers are those of
+-- the plain burst, begin's first, and after an accepted close the front of the buffer is its file
 pub record Replayed (l : CallList) (a a′ b b′ : Bytes) (n : ℕ) : Type 0 where
   pub nothing : length a < 8 → (n ≡ 0) × (a′ ≡ a) × (b′ ≡ b)
   pub count : 8 ≤ length a → n ≡ length (plainAnswers (editionFor l) l)

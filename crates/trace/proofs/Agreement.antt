@@ -17,10 +17,11 @@ use Rattle.burst.specs.declared.Entry.{Entry}
 use Rattle.burst.specs.declared.Recorder.{Recorder}
 use Rattle.burst.specs.declared.Edition.{Edition}
 use Rattle.burst.specs.Editions.{written, maxEntries, Known}
+use Rattle.burst.specs.Parts.{markLength}
 use Rattle.burst.specs.Layout.{Identity, recordBytes, closingSeal}
 use Rattle.burst.specs.Numbers.{totalFrom, beginNumber}
 use Rattle.burst.specs.Index.{entryOf, indexRules, indexBytes}
-use Rattle.trace.specs.Plain.{Firing, kept, gap, pictures, gaps, usedBy, records, Plain, noBurst, totalOf, headerOf, indexOf, fileOf, Way, Call, keepShot, dropShot, closeBurst, CallList, Answer, numberOf, accepted, valueOf, afterCall, answerOf, afterCalls, answersOf, begun, plainOf, plainAnswers, beginNumberOf}
+use Rattle.trace.specs.Plain.{Firing, kept, gap, pictures, gaps, usedBy, records, Plain, newBurst, noBurst, totalOf, headerOf, indexOf, fileOf, Way, Call, keepShot, dropShot, closeBurst, CallList, Answer, numberOf, accepted, valueOf, afterCall, answerOf, afterCalls, answersOf, begun, plainOf, plainAnswers, beginNumberOf}
 use Rattle.burst.specs.Recorder.{editionOf, nameOf, identityOf, isSound, newRecorder, noRecorder, beginRefusal, beginAnswer, beginBuffer, afterDrop, dropRefusal, dropAnswer, afterKeep, keepRefusal, keepAnswer, keepBuffer, recorderHeader, recorderIndex, recorderSeal, afterClose, closeRefusal, closeAnswer, closeBuffer}
 use Rattle.burst.proofs.Rows.{written-known}
 use Rattle.burst.proofs.Rules.{clash, sound-is}
@@ -32,6 +33,25 @@ use Rattle.trace.proofs.Shots.{entries, Valid, valid-snoc, pictures-app
 
 abbrev pub with : Plain → List Firing → Bool → Plain
 with p xs c = record { key = p .key; identity = p .identity; shots = xs; closed = c }
+
+-- ---- what keep and close leave in the buffer
+abbrev withRecord : Recorder → Bytes → Bytes → Bytes → Bytes
+withRecord r b s q = putBytes b (r .used) (recordBytes (editionOf r) (r .key) (nameOf r) (r .taken .0 + 1) (r .used) s q)
+
+abbrev withEnd : Recorder → Bytes → Bytes
+withEnd r b = putBytes (putBytes b 0 (recorderHeader r)) (r .used) (recorderIndex r ++ recorderSeal r)
+
+-- ---- a closed plain burst: every call answers 8 and changes nothing
+module _ (ed : Edition) (n : ℕ) (p : Plain) (shut : p .closed ≡ true) where
+  pub closed-8 : (c : Call) → numberOf ed n p c ≡ 8
+  unfolding numberOf
+  closed-8 (keepShot s q) = sym (keep-8 _ _ _ _ _ _ _ _ (ap not shut))
+  closed-8 (dropShot way) = sym (drop-8 _ _ _ (ap not shut))
+  closed-8 closeBurst = sym (close-8 _ _ _ _ (ap not shut))
+
+  pub closed-stays : (c : Call) → afterCall ed n p c ≡ p
+  unfolding afterCall
+  closed-stays c = simp (closed-8 c)
 
 module _ (ed : Edition) (known : Known ed) where
   -- ---- a recorder and a buffer of n bytes that stand for an open plain burst
@@ -48,7 +68,7 @@ module _ (ed : Edition) (known : Known ed) where
     pub size : length (r .entries) ≡ maxEntries
     pub most : length (p .shots) ≤ ed .shots
     pub valid : Valid (p .shots)
-    pub site16 : length (p .identity .siteMark) ≡ 16
+    pub site16 : length (p .identity .siteMark) ≡ markLength
     pub room : length b ≡ n
     pub fits : r .used ≤ n
     pub front : take (r .used) b ≡ replicate (ed .header) 0 ++ records ed (p .key) (p .identity .name) 1 (ed .header) (p .shots)
@@ -82,7 +102,7 @@ module _ (ed : Edition) (known : Known ed) where
     close-number = cc (l .row, live-sound, l .kept, l .used, l .room)
 
     keep-live : (s q : Bytes) → numberOf ed n p (keepShot s q) ≡ 0
-        → Live n (with p (p .shots ++ (kept s q ∷ [])) (p .closed)) (afterKeep r (length q)) (putBytes b (r .used) (recordBytes (editionOf r) (r .key) (nameOf r) (r .taken .0 + 1) (r .used) s q))
+        → Live n (with p (p .shots ++ (kept s q ∷ [])) (p .closed)) (afterKeep r (length q)) (withRecord r b s q)
     unfolding afterKeep numberOf
     keep-live s q z =
         let w = keeps _ _ _ _ _ _ _ _ z in
@@ -155,7 +175,11 @@ module _ (ed : Edition) (known : Known ed) where
           site16 = l .site16;
           room = l .room;
           fits = l .fits;
-          front = l .front ∙ ap (λ (m : Bytes). replicate (ed .header) 0 ++ m) (sym (append-nil (records ed (p .key) (p .identity .name) 1 (ed .header) xs)) ∙ sym (records-append ed (p .key) (p .identity .name) 1 (ed .header) xs (gap ∷ [])));
+          front =
+              l .front
+              ∙ ap (λ (m : Bytes). replicate (ed .header) 0 ++ m)
+              (sym (append-nil (records ed (p .key) (p .identity .name) 1 (ed .header) xs))
+              ∙ sym (records-append ed (p .key) (p .identity .name) 1 (ed .header) xs (gap ∷ [])));
         }
 
   -- the front of a buffer, with its first bytes replaced
@@ -196,7 +220,7 @@ module _ (ed : Edition) (known : Known ed) where
 
     -- an accepted close leaves the file at the front
     close-file : numberOf ed n p closeBurst ≡ 0
-        → take (totalOf ed p) (putBytes (putBytes b 0 (recorderHeader r)) (r .used) (recorderIndex r ++ recorderSeal r)) ≡ fileOf ed p
+        → take (totalOf ed p) (withEnd r b) ≡ fileOf ed p
     unfolding totalOf fileOf numberOf
     close-file z =
         let w = closes _ _ _ _ z .1 in
@@ -224,36 +248,39 @@ module _ (ed : Edition) (known : Known ed) where
     pub shut-r : isSound (editionOf r) r ≡ false
 
   module _ (n : ℕ) (p : Plain) (r : Recorder) (b : Bytes) (o : Off p r) where
-    no-plain : not (p .closed) ≡ false
-    no-plain = ap not (o .shut-p)
-
     plain-8 : (c : Call) → numberOf ed n p c ≡ 8
-    unfolding numberOf
-    plain-8 (keepShot s q) = sym (keep-8 _ _ _ _ _ _ _ _ no-plain)
-    plain-8 (dropShot way) = sym (drop-8 _ _ _ no-plain)
-    plain-8 closeBurst = sym (close-8 _ _ _ _ no-plain)
+    plain-8 c = closed-8 ed n p (o .shut-p) c
 
-    off-plain : (c : Call) → afterCall ed n p c ≡ p
-    unfolding afterCall
-    off-plain c = simp (plain-8 c)
+    -- the recorder's number
+    keep-is-8 : (s q : Bytes) → keepRefusal r s q b ≡ 8
+    unfolding keepRefusal
+    keep-is-8 s q = sym (keep-8 (editionOf r) _ (r .taken .0) (r .kept .0) (r .used) (length s) (length q) (length b) (o .shut-r))
+
+    drop-is-8 : dropRefusal r ≡ 8
+    unfolding dropRefusal
+    drop-is-8 = sym (drop-8 (editionOf r) _ (r .taken .0) (o .shut-r))
+
+    close-is-8 : closeRefusal r b ≡ 8
+    unfolding closeRefusal
+    close-is-8 = sym (close-8 _ (r .kept .0) (r .used) (length b) (o .shut-r))
 
     off-answer : (c : Call) → answerTo r b c ≡ answerOf ed n p c
-    unfolding answerTo answerOf keepAnswer dropAnswer closeAnswer keepRefusal dropRefusal closeRefusal
-    off-answer (keepShot s q) = simp (plain-8 (keepShot s q), sym (keep-8 (editionOf r) _ (r .taken .0) (r .kept .0) (r .used) (length s) (length q) (length b) (o .shut-r)))
-    off-answer (dropShot way) = simp (plain-8 (dropShot way), sym (drop-8 (editionOf r) _ (r .taken .0) (o .shut-r)))
-    off-answer closeBurst = simp (plain-8 closeBurst, sym (close-8 _ (r .kept .0) (r .used) (length b) (o .shut-r)))
+    unfolding answerTo answerOf keepAnswer dropAnswer closeAnswer
+    off-answer (keepShot s q) = simp (plain-8 (keepShot s q), keep-is-8 s q)
+    off-answer (dropShot way) = simp (plain-8 (dropShot way), drop-is-8)
+    off-answer closeBurst = simp (plain-8 closeBurst, close-is-8)
 
     off-recorder : (c : Call) → nextRecorder r b c ≡ r
-    unfolding nextRecorder keepAnswer dropAnswer closeAnswer keepRefusal dropRefusal closeRefusal
-    off-recorder (keepShot s q) = simp (sym (keep-8 (editionOf r) _ (r .taken .0) (r .kept .0) (r .used) (length s) (length q) (length b) (o .shut-r)))
-    off-recorder (dropShot way) = simp (sym (drop-8 (editionOf r) _ (r .taken .0) (o .shut-r)))
-    off-recorder closeBurst = simp (sym (close-8 _ (r .kept .0) (r .used) (length b) (o .shut-r)))
+    unfolding nextRecorder keepAnswer dropAnswer closeAnswer
+    off-recorder (keepShot s q) = simp (keep-is-8 s q)
+    off-recorder (dropShot way) = simp drop-is-8
+    off-recorder closeBurst = simp close-is-8
 
     off-buffer : (c : Call) → nextBuffer r b c ≡ b
-    unfolding nextBuffer keepBuffer closeBuffer keepRefusal closeRefusal
-    off-buffer (keepShot s q) = simp (sym (keep-8 (editionOf r) _ (r .taken .0) (r .kept .0) (r .used) (length s) (length q) (length b) (o .shut-r)))
+    unfolding nextBuffer keepBuffer closeBuffer
+    off-buffer (keepShot s q) = simp (keep-is-8 s q)
     off-buffer (dropShot way) = refl
-    off-buffer closeBurst = simp (sym (close-8 _ (r .kept .0) (r .used) (length b) (o .shut-r)))
+    off-buffer closeBurst = simp close-is-8
 
   record Same (n : ℕ) (p : Plain) (r : Recorder) (b : Bytes) (cs : List Call) : Type 0 where
     pub answers : answersFrom r b cs ≡ answersOf ed n p cs
@@ -268,12 +295,14 @@ module _ (ed : Edition) (known : Known ed) where
   off-answers n p r b [] o = refl
   off-answers n p r b (c ∷ cs) o =
       let h = off-answers n p r b cs o in
-      cc (off-answer n p r b o c, off-recorder n p r b o c, off-buffer n p r b o c, off-plain n p r b o c, h)
+      cc (off-answer n p r b o c, off-recorder n p r b o c, off-buffer n p r b o c, closed-stays ed n p (o .shut-p) c, h)
 
   off-same : (n : ℕ) (p : Plain) (r : Recorder) (b : Bytes) (cs : List Call) → Off p r → take (totalOf ed p) b ≡ fileOf ed p → Same n p r b cs
   off-same n p r b [] o f = record { answers = refl; file = λ _. f }
   off-same n p r b (c ∷ cs) o f =
-      let h = same-at n (afterCall ed n p c) p (nextRecorder r b c) r (nextBuffer r b c) b cs (off-plain n p r b o c) (off-recorder n p r b o c) (off-buffer n p r b o c) (off-same n p r b cs o f) in
+      let h =
+      same-at n (afterCall ed n p c) p (nextRecorder r b c) r (nextBuffer r b c) b cs
+      (closed-stays ed n p (o .shut-p) c) (off-recorder n p r b o c) (off-buffer n p r b o c) (off-same n p r b cs o f) in
       record { answers = cc (off-answer n p r b o c, h .answers); file = h .file }
 
   -- ---- one call from an open burst
@@ -301,7 +330,7 @@ module _ (ed : Edition) (known : Known ed) where
         record {
           answer = ap₂ (λ (k t : ℕ). told k (t + 1)) e (l .taken);
           next =
-              subst (λ (k : ℕ). Next n (afterCall ed n p (keepShot s q)) (cond (eqb k 0) (afterKeep r (length q)) r) (cond (eqb k 0) (putBytes b (r .used) (recordBytes (editionOf r) (r .key) (nameOf r) (r .taken .0 + 1) (r .used) s q)) b)) (sym e)
+              subst (λ (k : ℕ). Next n (afterCall ed n p (keepShot s q)) (cond (eqb k 0) (afterKeep r (length q)) r) (cond (eqb k 0) (withRecord r b s q) b)) (sym e)
               (goes-on n (numberOf ed n p (keepShot s q)) p _ r _ b _ _ refl (λ z. inl (keep-live n p r b l s q z)) (inl l));
         }
 
@@ -316,7 +345,8 @@ module _ (ed : Edition) (known : Known ed) where
               (both-same n (numberOf ed n p (dropShot way)) p _ r _ b _ refl (λ z. inl (drop-live n p r b l way z)) (inl l));
         }
       where
-        both-same : (n num : ℕ) (p p′ : Plain) (r r′ : Recorder) (b : Bytes) (z : Bool) → eqb num 0 ≡ z → (num ≡ 0 → Next n p′ r′ b) → Next n p r b → Next n (cond z p′ p) (cond z r′ r) b
+        both-same : (n num : ℕ) (p p′ : Plain) (r r′ : Recorder) (b : Bytes) (z : Bool) → eqb num 0 ≡ z → (num ≡ 0 → Next n p′ r′ b) → Next n p r b
+            → Next n (cond z p′ p) (cond z r′ r) b
         both-same n num p p′ r r′ b true e f l = f (eqb-true num 0 e)
         both-same n num p p′ r r′ b false e f l = l
 
@@ -329,7 +359,7 @@ module _ (ed : Edition) (known : Known ed) where
     total-same = cc (l .used, l .kept)
 
     shut-file : numberOf ed n p closeBurst ≡ 0
-        → take (totalOf ed (with p (p .shots) true)) (putBytes (putBytes b 0 (recorderHeader r)) (r .used) (recorderIndex r ++ recorderSeal r)) ≡ fileOf ed (with p (p .shots) true)
+        → take (totalOf ed (with p (p .shots) true)) (withEnd r b) ≡ fileOf ed (with p (p .shots) true)
     unfolding totalOf fileOf headerOf indexOf
     shut-file z = close-file n p r b l z
 
@@ -340,7 +370,7 @@ module _ (ed : Edition) (known : Known ed) where
         record {
           answer = ap₂ told e total-same;
           next =
-              subst (λ (k : ℕ). Next n (afterCall ed n p closeBurst) (cond (eqb k 0) (afterClose r) r) (cond (eqb k 0) (putBytes (putBytes b 0 (recorderHeader r)) (r .used) (recorderIndex r ++ recorderSeal r)) b)) (sym e)
+              subst (λ (k : ℕ). Next n (afterCall ed n p closeBurst) (cond (eqb k 0) (afterClose r) r) (cond (eqb k 0) (withEnd r b) b)) (sym e)
               (goes-on n (numberOf ed n p closeBurst) p _ r _ b _ _ refl (λ z. inr (shut-off, shut-file z)) (inl l));
         }
 
@@ -364,7 +394,7 @@ module _ (k : Bytes) (i : Identity) (b : Bytes) (h : beginNumber (written (lengt
   abbrev own : Edition
   own = written (length k)
 
-  begun-live : Live own (written-known _) (length b) (record { key = k; identity = i; shots = []; closed = false }) (newRecorder k i (own .header) false) (putBytes b 0 (replicate (own .header) 0))
+  begun-live : Live own (written-known _) (length b) (newBurst k i) (newRecorder k i (own .header) false) (putBytes b 0 (replicate (own .header) 0))
   unfolding newRecorder
   begun-live =
       let w = begins _ _ _ _ h in
@@ -402,7 +432,7 @@ module _ (l : CallList) (b : Bytes) (hb : length b ≡ l .bufferLength) where
   no-recorder = refl
 
   abbrev plainFrom : Bool → Plain
-  plainFrom z = cond z (record { key = l .key; identity = l .identity; shots = []; closed = false }) noBurst
+  plainFrom z = cond z (newBurst (l .key) (l .identity)) noBurst
 
   abbrev recorderFrom : Bool → Recorder
   recorderFrom z = cond z (newRecorder (l .key) (l .identity) (row .header) false) noRecorder
@@ -412,12 +442,15 @@ module _ (l : CallList) (b : Bytes) (hb : length b ≡ l .bufferLength) where
 
   -- what begin leaves: an open burst, or one that stays closed
   abbrev Starts : Bool → Type 0
-  Starts z = (Off row (written-known _) (plainFrom z) (recorderFrom z) × (beginNumberOf row l ≡ 0 → ⊥)) ⊎ Next row (written-known _) (l .bufferLength) (plainFrom z) (recorderFrom z) (bufferBegun z)
+  Starts z =
+      (Off row (written-known _) (plainFrom z) (recorderFrom z) × (beginNumberOf row l ≡ 0 → ⊥))
+      ⊎ Next row (written-known _) (l .bufferLength) (plainFrom z) (recorderFrom z) (bufferBegun z)
 
   starts : (z : Bool) → eqb (beginNumberOf row l) 0 ≡ z → Starts z
   unfolding beginRefusal
   starts true e =
-      inr (inl (subst (λ (n : ℕ). Live row (written-known _) n (plainFrom true) (recorderFrom true) (bufferBegun true)) hb (begun-live (l .key) (l .identity) b (number-same ∙ eqb-true _ _ e))))
+      let w = begun-live (l .key) (l .identity) b (number-same ∙ eqb-true _ _ e) in
+      inr (inl (subst (λ (n : ℕ). Live row (written-known _) n (plainFrom true) (recorderFrom true) (bufferBegun true)) hb w))
   starts false e = inl (record { shut-p = refl; shut-r = no-recorder }, eqb-false _ _ e)
 
   abbrev last : Bool → Plain
@@ -428,8 +461,13 @@ module _ (l : CallList) (b : Bytes) (hb : length b ≡ l .bufferLength) where
     pub file : Reached row l → last z .closed ≡ true → take (totalOf row (last z)) (bufferFrom (recorderFrom z) (bufferBegun z) (l .calls)) ≡ fileOf row (last z)
 
   whole : (z : Bool) → Starts z → Whole z
-  whole z (inl o) = record { answers = off-answers row (written-known _) (l .bufferLength) (plainFrom z) (recorderFrom z) (bufferBegun z) (l .calls) (o .0); file = λ q h. absurd (o .1 (q .begun)) }
-  whole z (inr x) = let s = same row (written-known _) (l .bufferLength) (plainFrom z) (recorderFrom z) (bufferBegun z) (l .calls) x in record { answers = s .answers; file = λ q h. s .file h }
+  whole z (inl o) = record {
+    answers = off-answers row (written-known _) (l .bufferLength) (plainFrom z) (recorderFrom z) (bufferBegun z) (l .calls) (o .0);
+    file = λ q h. absurd (o .1 (q .begun));
+  }
+  whole z (inr x) =
+      let s = same row (written-known _) (l .bufferLength) (plainFrom z) (recorderFrom z) (bufferBegun z) (l .calls) x in
+      record { answers = s .answers; file = λ q h. s .file h }
 
   pub agrees : Agrees row l b
   unfolding runAnswers runBuffer plainAnswers plainOf begun beginAnswer beginBuffer

@@ -12,7 +12,8 @@ use Rattle.bytes_le.specs.Bytes.{Bytes}
 use Rattle.burst.specs.declared.Entry.{Entry}
 use Rattle.burst.specs.declared.Edition.{Edition}
 use Rattle.burst.specs.declared.Name.{Name}
-use Rattle.burst.specs.Layout.{Identity, entryBytes, recordBytes, closingSeal}
+use Rattle.burst.specs.Parts.{markLength}
+use Rattle.burst.specs.Layout.{Identity, entryBytes, recordBytes, closingSeal, maxPicture}
 use Rattle.burst.specs.Index.{entryOf, indexRules, bytesOfEntry, indexBytes}
 use Rattle.trace.specs.Plain.{Firing, kept, gap, pictures, gaps, usedBy, records, index}
 use Rattle.burst.proofs.Rules.{Obeys, obeyed, index-end, index-next}
@@ -25,10 +26,10 @@ entries n at [] = []
 entries n at (kept s p ∷ xs) = entryOf n at (length p) ∷ entries (n + 1) (at + length p + 32) xs
 entries n at (gap ∷ xs) = entries (n + 1) at xs
 
--- each picture's length is in range, and its stamp is 16 bytes
+-- each picture's length is in range, and its stamp has the right length
 abbrev pub Valid : List Firing → Type 0
 Valid [] = Unit {0}
-Valid (kept s p ∷ xs) = ((length s ≡ 16) × (1 ≤ length p) × (length p ≤ 1048576)) × Valid xs
+Valid (kept s p ∷ xs) = ((length s ≡ markLength) × (1 ≤ length p) × (length p ≤ maxPicture)) × Valid xs
 Valid (gap ∷ xs) = Valid xs
 
 pub valid-snoc : (xs : List Firing) (x : Firing) → Valid xs → Valid (x ∷ []) → Valid (xs ++ (x ∷ []))
@@ -109,7 +110,7 @@ used-most at [] v = omega arith
 used-most at (kept s p ∷ xs) v = let h = used-most (at + length p + 32) xs (v .1) in let g = v .0 .2 in omega arith
 used-most at (gap ∷ xs) v = let h = used-most at xs v in omega arith
 
-pub length-record : (e : Edition) (key : Bytes) (name : Name) (n at : ℕ) (s p : Bytes) → length s ≡ 16 → length (recordBytes e key name n at s p) ≡ length p + 32
+pub length-record : (e : Edition) (key : Bytes) (name : Name) (n at : ℕ) (s p : Bytes) → length s ≡ markLength → length (recordBytes e key name n at s p) ≡ length p + 32
 unfolding recordBytes
 length-record e key name n at s p hs = length-part e key name n s _ p hs
 
@@ -121,6 +122,6 @@ length-records e key name n at (kept s p ∷ xs) v =
     simp length-append (omega arith)
 length-records e key name n at (gap ∷ xs) v = length-records e key name (n + 1) at xs v
 
-pub length-closing : (e : Edition) (key : Bytes) (i : Identity) (header index : Bytes) → length (i .siteMark) ≡ 16 → length (closingSeal e key i header index) ≡ 0 + 32
+pub length-closing : (e : Edition) (key : Bytes) (i : Identity) (header index : Bytes) → length (i .siteMark) ≡ markLength → length (closingSeal e key i header index) ≡ 0 + 32
 unfolding closingSeal
 length-closing e key i header index h = length-part e key (i .name) 0 (i .siteMark) _ [] h

@@ -52,6 +52,10 @@ pub record Plain : Type 0 where
   pub shots : List Firing
   pub closed : Bool
 
+-- after a begin: no shots yet
+abbrev pub newBurst : (key : Bytes) (i : Identity) → Plain
+newBurst key i = record { key = key; identity = i; shots = []; closed = false }
+
 -- at first it is closed
 abbrev pub noBurst : Plain
 noBurst = record { key = []; identity = record { name = record { «burst_number» = 0 }; siteMark = [] }; shots = []; closed = true }
@@ -145,7 +149,7 @@ module _ (e : Edition) (l : CallList) where
 
   -- a begin turned down leaves the burst closed
   unfoldable pub begun : Plain
-  begun = cond (eqb beginNumberOf 0) (record { key = l .key; identity = l .identity; shots = []; closed = false }) noBurst
+  begun = cond (eqb beginNumberOf 0) (newBurst (l .key) (l .identity)) noBurst
 
   -- the plain burst of a list
   unfoldable pub plainOf : Plain

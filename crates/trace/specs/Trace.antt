@@ -1,4 +1,5 @@
--- A list of calls run on a recorder and a buffer: each call is given the recorder that the call before returned, or left in the lent one (01, "Recorder"). What a call answers and leaves is what its contract states.
+-- A list of calls run on a recorder and a buffer: each call is given the recorder that the call before returned, or left in the lent one (01,
+-- "Recorder"). What a call answers and leaves is what its contract states.
 -- Assumes nothing.
 use mathlib.Core.List.{List, [], _∷_}
 use Prim.Native.Nat.{ℕ}

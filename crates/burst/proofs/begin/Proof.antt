@@ -7,7 +7,7 @@ use borrow.Author.Needs.{needs}
 use lib.ListN.{length}
 use Rattle.bytes_le.specs.Bytes.{Bytes, putBytes}
 use Rattle.burst.specs.Layout.{Identity}
-use Rattle.burst.specs.Recorder.{newRecorder}
+use Rattle.burst.specs.Recorder.{newRecorder, noRecorder}
 use Rattle.burst.proofs.Puts.{header-zeros, length-zeros}
 use Rattle.burst.proofs.Numbers.{Begins, begins}
 use Rattle.burst.proofs.Answers.{begin-refused, begin-done}
@@ -18,13 +18,21 @@ abbrev identity : tie.Start → Identity
 identity s = record { name = record { «burst_number» = s .args .burst-number }; siteMark = s .args .site-mark .now }
 
 -- what is known once no number stands against the call
-good : (c : tie.Else1) → Begins (c .before .before .edition-written .result) (length (c .before .before .before .before .before .before .args .key .now)) (length (c .before .before .before .before .before .before .args .site-mark .now)) (length (c .before .before .before .before .before .before .args .buffer .now))
+abbrev start : tie.Else1 → tie.Start
+start c = c .before .before .before .before .before .before
+
+good : (c : tie.Else1)
+    → Begins (c .before .before .edition-written .result) (length (start c .args .key .now)) (length (start c .args .site-mark .now)) (length (start c .args .buffer .now))
 good c = begins _ _ _ _ (sym (c .before .begin-number .ensures) ∙ c .if1 .left)
 
 returns : tie.Need-returns
+unfolding noRecorder
 returns c =
-    let a = c .before .before .before .before .before .before .before .args in
-    begin-refused (a .key .now) (identity (c .before .before .before .before .before .before .before)) (a .buffer .now) _ (c .before .before .before .edition-written .ensures .0) _ (c .before .before .begin-number .ensures) (c .before .if1 .taken) _ (c .new-recorder .ensures)
+    let c₃ = c .before .before .before in
+    let c₇ = c₃ .before .before .before .before in
+    let a = c₇ .args in
+    begin-refused (a .key .now) (identity c₇) (a .buffer .now) _ (c₃ .edition-written .ensures .0) _ (c .before .before .begin-number .ensures) (c .before .if1 .taken) _
+    (c .new-recorder .ensures)
 
 begin-number-requires : tie.Need-begin-number-requires
 begin-number-requires c κs = c .edition-written .ensures .1
@@ -41,20 +49,26 @@ put-bytes-requires c κs =
     let l = length-zeros _ (c .before .before .before .before .before .edition-written .ensures .1) in
     omega (arith, w, l)
 
-sixteen-requires : tie.Need-sixteen-requires
-sixteen-requires c κs = good (c .before .before .before .before .before .before) .key
+array-of-requires : tie.Need-array-of-requires
+array-of-requires c κs = good (c .before .before .before .before .before .before) .key
 
-sixteen-requires-2 : tie.Need-sixteen-requires-2
-sixteen-requires-2 c κs = good (c .before .before .before .before .before .before .before) .mark
+array-of-requires-2 : tie.Need-array-of-requires-2
+array-of-requires-2 c κs = good (c .before .before .before .before .before .before .before) .mark
 
 returns-2 : tie.Need-returns-2
 returns-2 c =
-    let a = c .before .before .before .before .before .before .before .before .before .before .before .before .before .before .before .args in
-    let e = c .before .before .before .before .before .before .before .before .before .before .before .edition-written .result in
-    begin-done (a .key .now) (identity (c .before .before .before .before .before .before .before .before .before .before .before .before .before .before .before)) (a .buffer .now) e (c .before .before .before .before .before .before .before .before .before .before .before .edition-written .ensures .0) (sym (c .before .before .before .before .before .before .before .before .before .before .begin-number .ensures) ∙ c .before .before .before .before .before .before .before .before .before .if1 .left)
+    let c₅ = c .before .before .before .before .before in
+    let c₉ = c₅ .before .before .before .before in
+    let c₁₀ = c₉ .before in
+    let c₁₁ = c₁₀ .before in
+    let c₁₅ = c₁₁ .before .before .before .before in
+    let a = c₁₅ .args in
+    let e = c₁₁ .edition-written .result in
+    begin-done (a .key .now) (identity c₁₅) (a .buffer .now) e (c₁₁ .edition-written .ensures .0) (sym (c₁₀ .begin-number .ensures) ∙ c₉ .if1 .left)
     _ (c .new-recorder2 .ensures
-    ∙ ap₂ (λ (k m : Bytes). newRecorder k (record { name = record { «burst_number» = a .burst-number }; siteMark = m }) (e .header) false) (c .before .before .sixteen .ensures) (c .before .sixteen2 .ensures))
-    _ (c .before .before .before .before .before .put-bytes .ensures .1 ∙ ap (putBytes (a .buffer .now) 0) (header-zeros e (c .before .before .before .before .before .before .before .before .before .before .before .edition-written .ensures .1)))
+    ∙ ap₂ (λ (k m : Bytes). newRecorder k (record { name = record { «burst_number» = a .burst-number }; siteMark = m }) (e .header) false) (c .before .before .array-of .ensures)
+    (c .before .array-of2 .ensures))
+    _ (c₅ .put-bytes .ensures .1 ∙ ap (putBytes (a .buffer .now) 0) (header-zeros e (c₁₁ .edition-written .ensures .1)))
 
 pub begin-spec : {M : Type 1} → statement M
 begin-spec =
@@ -68,8 +82,8 @@ begin-spec =
     array-share-prefix-zeros
     slice-aggregate-put-bytes
     put-bytes-requires
-    sixteen-requires
-    sixteen-requires-2
+    array-of-requires
+    array-of-requires-2
     (λ c. search needs)
     (λ c. search needs)
     returns-2)

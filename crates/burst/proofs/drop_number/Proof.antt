@@ -12,10 +12,16 @@ returns : tie.Need-returns
 returns c = drop-8 _ _ _ (sym (c .before .sound .ensures) ∙ not-true _ (c .if1 .taken))
 
 returns-2 : tie.Need-returns-2
-returns-2 c = drop-9 _ _ _ (sym (c .before .before .before .before .sound .ensures) ∙ not-false _ (c .before .before .before .if1 .left)) (omega arith)
+returns-2 c =
+    let c₃ = c .before .before .before in
+    let c₄ = c₃ .before in
+    drop-9 _ _ _ (sym (c₄ .sound .ensures) ∙ not-false _ (c₃ .if1 .left)) (omega arith)
 
 returns-3 : tie.Need-returns-3
-returns-3 c = drop-0 _ _ _ (sym (c .before .before .before .before .sound .ensures) ∙ not-false _ (c .before .before .before .if1 .left)) (omega arith)
+returns-3 c =
+    let c₃ = c .before .before .before in
+    let c₄ = c₃ .before in
+    drop-0 _ _ _ (sym (c₄ .sound .ensures) ∙ not-false _ (c₃ .if1 .left)) (omega arith)
 
 pub drop-number-spec : {M : Type 1} → statement M
 drop-number-spec = tie.close (tie.spec

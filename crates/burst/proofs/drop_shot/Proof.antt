@@ -13,14 +13,22 @@ drop-number-requires : tie.Need-drop-number-requires
 drop-number-requires c κs = c .edition-of .ensures .1
 
 returns : tie.Need-returns
-returns c = c .not-shot .ensures ∙ drop-refused (c .before .before .before .before .args .r) _ (c .before .before .before .edition-of .ensures .0) _ (c .before .before .drop-number .ensures) (c .before .if1 .taken)
+returns c =
+    let c₃ = c .before .before .before in
+    let c₄ = c₃ .before in
+    c .not-shot .ensures ∙ drop-refused (c₄ .args .r) _ (c₃ .edition-of .ensures .0) _ (c .before .before .drop-number .ensures) (c .before .if1 .taken)
 
 add-t7 : tie.Need-add-t7
-add-t7 c = let w = drops _ _ _ (sym (c .before .before .drop-number .ensures) ∙ c .before .if1 .left) in let k = c .before .before .before .edition-of .ensures .1 in omega (arith, w, k)
+add-t7 c =
+    let c₃ = c .before .before .before in
+    let w = drops _ _ _ (sym (c .before .before .drop-number .ensures) ∙ c .before .if1 .left) in let k = c₃ .edition-of .ensures .1 in omega (arith, w, k)
 
 returns-2 : tie.Need-returns-2
 unfolding afterDrop
-returns-2 c = drop-done (c .before .before .before .before .args .r) _ (c .before .before .before .edition-of .ensures .0) (sym (c .before .before .drop-number .ensures) ∙ c .before .if1 .left)
+returns-2 c =
+    let c₃ = c .before .before .before in
+    let c₄ = c₃ .before in
+    drop-done (c₄ .args .r) _ (c₃ .edition-of .ensures .0) (sym (c .before .before .drop-number .ensures) ∙ c .before .if1 .left)
 
 pub drop-shot-spec : {M : Type 1} → statement M
 drop-shot-spec = tie.close (tie.spec

@@ -22,11 +22,16 @@ zeros = record { number = 0; header = 0; shots = 0 }
 
 returns : tie.Need-returns Inv-loop μ-loop
 returns c =
-    let e = sym (c .before .before .before .before .loop .inv .2 ∙ row-here (c .before .before .before .before .before .args .number) (c .before .before .before .before .loop .i) zeros (omega arith) (c .if1 .taken)) in
+    let c₄ = c .before .before .before .before in
+    let c₅ = c₄ .before in
+    let e = sym (c₄ .loop .inv .2 ∙ row-here (c₅ .args .number) (c₄ .loop .i) zeros (omega arith) (c .if1 .taken)) in
     (e, subst Known (sym e) (numbered-known _))
 
 loop-again : tie.Need-loop-again Inv-loop μ-loop
-loop-again c = (omega arith, refl, c .before .before .before .before .loop .inv .2 ∙ row-later (c .before .before .before .before .before .args .number) (c .before .before .before .before .loop .i) zeros (omega arith) (c .if1 .left))
+loop-again c =
+    let c₄ = c .before .before .before .before in
+    let c₅ = c₄ .before in
+    (omega arith, refl, c₄ .loop .inv .2 ∙ row-later (c₅ .args .number) (c₄ .loop .i) zeros (omega arith) (c .if1 .left))
 
 returns-2 : tie.Need-returns-2 Inv-loop μ-loop
 returns-2 c =

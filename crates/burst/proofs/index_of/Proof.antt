@@ -25,8 +25,10 @@ loop-holds c = (omega arith, refl, refl, refl)
 
 loop-again : tie.Need-loop-again Inv-loop μ-loop
 loop-again c =
-    let s = c .before .before .before .before .before .before in
-    let l = c .before .before .before .before .before .loop in
+    let c₅ = c .before .before .before .before .before in
+    let c₆ = c₅ .before in
+    let s = c₆ in
+    let l = c₅ .loop in
     let p = c .before .put-entry in
     let z : length (s .args .t1 .entries) ≡ maxEntries = simp length-map at (s .good .0 .1 .1 .1 .1 .1 .1 .1 .1 .0 .1 .0 .1) in
     let w = length-entry-of (getD (s .args .t1 .entries) (l .i) (entryOf 0 0 0)) in (

@@ -14,7 +14,8 @@ use Rattle.burst.proofs.keep.Tie as tie
 
 abbrev Numbers : tie.Else1 → Type 0
 Numbers c =
-    let a = c .before .before .before .before .before .before .args in
+    let c₆ = c .before .before .before .before .before .before in
+    let a = c₆ .args in
     let e = c .before .before .edition-of .result in
     Keeps e (isSound e (a .r)) (a .r .taken .0) (a .r .kept .0) (a .r .used) (length (a .stamp .now)) (length (a .picture .now)) (length (a .buffer .now))
 
@@ -34,8 +35,11 @@ keep-number-requires c κs = c .edition-of .ensures .1
 
 returns : tie.Need-returns
 returns c =
-    let a = c .before .before .before .before .before .before .before .args in
-    let p = keep-refused (a .r) _ (c .before .before .before .edition-of .ensures .0) (a .stamp .now) (a .picture .now) (a .buffer .now) _ (c .before .before .keep-number .ensures) (c .before .if1 .taken) in
+    let c₃ = c .before .before .before in
+    let c₇ = c₃ .before .before .before .before in
+    let a = c₇ .args in
+    let p = keep-refused (a .r) _ (c₃ .edition-of .ensures .0) (a .stamp .now) (a .picture .now) (a .buffer .now) _ (c .before .before .keep-number .ensures)
+    (c .before .if1 .taken) in
     (c .not-shot .ensures ∙ p .0, p .1)
 
 put-record-requires : tie.Need-put-record-requires
@@ -49,8 +53,14 @@ with-picture-requires c κs = let g = good (c .before .before .before .before) i
 
 returns-2 : tie.Need-returns-2
 returns-2 c =
-    let a = c .before .before .before .before .before .before .before .before .before .before .before .before .args in
-    keep-done (a .r) _ (c .before .before .before .before .before .before .before .before .edition-of .ensures .0) (a .stamp .now) (a .picture .now) (a .buffer .now) (sym (c .before .before .before .before .before .before .before .keep-number .ensures) ∙ c .before .before .before .before .before .before .if1 .left) _ (c .before .with-picture .ensures) _ (c .before .before .before .before .put-record .ensures)
+    let c₄ = c .before .before .before .before in
+    let c₆ = c₄ .before .before in
+    let c₇ = c₆ .before in
+    let c₈ = c₇ .before in
+    let c₁₂ = c₈ .before .before .before .before in
+    let a = c₁₂ .args in
+    keep-done (a .r) _ (c₈ .edition-of .ensures .0) (a .stamp .now) (a .picture .now) (a .buffer .now) (sym (c₇ .keep-number .ensures) ∙ c₆ .if1 .left) _
+    (c .before .with-picture .ensures) _ (c₄ .put-record .ensures)
 
 pub keep-spec : {M : Type 1} → statement M
 keep-spec =

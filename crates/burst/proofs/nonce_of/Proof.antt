@@ -6,7 +6,10 @@ use Rattle.burst.proofs.nonce_of.Statement.{statement}
 use Rattle.burst.proofs.nonce_of.Tie as tie
 
 returns : tie.Need-returns
-returns c = nonce-put (c .before .before .before .before .before .before .before .args .e) (c .before .before .before .before .before .before .before .args .name) _ _ _ _ (c .before .before .before .before .before .store-le .ensures .0) (c .before .before .before .before .before .store-le .ensures .1) (c .before .store-le2 .ensures .1)
+returns c =
+    let c₅ = c .before .before .before .before .before in
+    let c₇ = c₅ .before .before in
+    nonce-put (c₇ .args .e) (c₇ .args .name) _ _ _ _ (c₅ .store-le .ensures .0) (c₅ .store-le .ensures .1) (c .before .store-le2 .ensures .1)
 
 pub nonce-of-spec : {M : Type 1} → statement M
 nonce-of-spec =

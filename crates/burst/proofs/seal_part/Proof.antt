@@ -11,10 +11,13 @@ use Rattle.burst.proofs.seal_part.Tie as tie
 
 returns : tie.Need-returns
 returns c =
-    let a = c .before .before .before .before .before .before .before .before .before .before .before .before .args in
-    let p = c .before .before .before .before .before .before .before .before .before .before .before .before .pre in
+    let c₅ = c .before .before .before .before .before in
+    let c₁₂ = c₅ .before .before .before .before .before .before .before in
+    let a = c₁₂ .args in
+    let p = c₁₂ .pre in
     c .before .before .seal .ensures .1
-    ∙ part-put (a .e) (a .key .now) (a .name) (a .shot .0) (p .0) _ (c .before .before .before .before .before .nonce-of .ensures) (a .first .now ++ a .second .now) (rw length-append (omega (arith, p))) (a .mark .now) (a .body .now) (a .out .now)
+    ∙ part-put (a .e) (a .key .now) (a .name) (a .shot .0) (p .0) _ (c₅ .nonce-of .ensures) (a .first .now ++ a .second .now) (rw length-append (omega (arith, p))) (a .mark .now)
+    (a .body .now) (a .out .now)
     (p .1) (p .3) (p .4)
 
 pub seal-part-spec : {M : Type 1} → statement M

@@ -11,10 +11,12 @@ use Rattle.burst.proofs.verify_part.Tie as tie
 
 returns : tie.Need-returns
 returns c =
-    let a = c .before .before .before .before .before .before .before .args in
-    let p = c .before .before .before .before .before .before .before .pre in
+    let c₇ = c .before .before .before .before .before .before .before in
+    let a = c₇ .args in
+    let p = c₇ .pre in
     c .verify .ensures
-    ∙ part-verified (a .e) (a .key .now) (a .name) (a .shot .0) (p .0) _ (c .before .before .nonce-of .ensures) (a .first .now ++ a .second .now) (rw length-append (omega (arith, p))) (a .sealed .now) (p .2) (p .3)
+    ∙ part-verified (a .e) (a .key .now) (a .name) (a .shot .0) (p .0) _ (c .before .before .nonce-of .ensures) (a .first .now ++ a .second .now)
+    (rw length-append (omega (arith, p))) (a .sealed .now) (p .2) (p .3)
 
 pub verify-part-spec : {M : Type 1} → statement M
 verify-part-spec =

@@ -8,7 +8,10 @@ use Rattle.burst.proofs.with_picture.Tie as tie
 
 returns : tie.Need-returns
 unfolding afterKeep
-returns c = kept-with (c .before .before .before .before .before .args .r) (c .before .before .before .before .before .args .length) _ (c .before .before .before .before .next-entry .ensures)
+returns c =
+    let c₄ = c .before .before .before .before in
+    let c₅ = c₄ .before in
+    kept-with (c₅ .args .r) (c₅ .args .count) _ (c₄ .next-entry .ensures)
 
 pub with-picture-spec : {M : Type 1} → statement M
 with-picture-spec =

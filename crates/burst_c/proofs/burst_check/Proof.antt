@@ -23,9 +23,13 @@ returns-2 c =
 
 returns-3 : tie.Need-returns-3
 returns-3 c =
-    let a = c .before .before .before .before .before .before .before .before .before .before .before .args in
-    let e = c .before .before .before .before .before .before .before .check .ensures in
-    let p = check-done (a .key .now) (a .file .now) (a .info .now) _ e (c .before .before .before .before .before .if1 .left) (omega (arith, c .before .before .before .before .if2)) _ (c .before .before .put-checked .ensures) in
+    let c₄ = c .before .before .before .before in
+    let c₅ = c₄ .before in
+    let c₇ = c₅ .before .before in
+    let c₁₁ = c₇ .before .before .before .before in
+    let a = c₁₁ .args in
+    let e = c₇ .check .ensures in
+    let p = check-done (a .key .now) (a .file .now) (a .info .now) _ e (c₅ .if1 .left) (omega (arith, c₄ .if2)) _ (c .before .before .put-checked .ensures) in
     (p .0, checked-mark _ _ _ e, p .1)
 
 pub burst-check-spec : {M : Type 1} → statement M

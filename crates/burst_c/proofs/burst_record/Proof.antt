@@ -7,14 +7,15 @@ use borrow.Author.Needs.{needs}
 use Rattle.burst.specs.declared.Entry.{Entry}
 use Rattle.reader.specs.Front.{entryAt}
 use Rattle.reader.specs.Reader.{locateAnswer}
-use Rattle.reader.proofs.Answers.{located-number, located-mark, located-found, located-position, record-done}
+use Rattle.reader.proofs.Answers.{located-refusal, located-mark, located-found, located-position, record-done}
 use Rattle.burst_c.proofs.Places.{at-located}
 use Rattle.burst_c.proofs.Returned.{none-there, record-size}
 use Rattle.burst_c.proofs.burst_record.Statement.{statement}
 use Rattle.burst_c.proofs.burst_record.Tie as tie
 
 -- locate's answer for the caller's place
-told : (c : tie.After-locate) → c .locate .result ≡ locateAnswer (c .before .before .before .before .args .key .now) (c .before .before .before .before .args .file .now) (c .before .before .before .before .args .place)
+told : (c : tie.After-locate)
+    → c .locate .result ≡ locateAnswer (c .before .before .before .before .args .key .now) (c .before .before .before .before .args .file .now) (c .before .before .before .before .args .place)
 told c =
     let a = c .before .before .before .before .args in
     c .locate .ensures ∙ at-located (a .key .now) (a .file .now) (a .place) _ (c .before .place-of .ensures)
@@ -23,7 +24,7 @@ returns : tie.Need-returns
 returns c =
     let a = c .before .before .before .before .before .before .args in
     let e = told (c .before .before) in
-    let n = located-number _ _ _ _ e in
+    let n = located-refusal _ _ _ _ e in
     let p = none-there (a .key .now) (a .file .now) (a .place) (λ z. c .if1 .taken (n ∙ z)) in
     (n, located-mark _ _ _ _ e, p .0, p .1)
 
@@ -35,9 +36,11 @@ entry-at-requires c κs =
 
 add-size : tie.Need-add-size
 add-size c =
-    let w = located-found _ _ _ _ (told (c .before .before .before .before)) (c .before .before .if1 .left) in
-    let i = located-position _ _ _ _ (told (c .before .before .before .before)) (c .before .before .if1 .left) in
-    let n = ap (λ (x : Entry). x .length) (c .before .entry-at .ensures ∙ ap (entryAt (c .before .before .before .before .before .before .before .before .args .file .now)) i) in
+    let c₄ = c .before .before .before .before in
+    let c₈ = c₄ .before .before .before .before in
+    let w = located-found _ _ _ _ (told c₄) (c .before .before .if1 .left) in
+    let i = located-position _ _ _ _ (told c₄) (c .before .before .if1 .left) in
+    let n = ap (λ (x : Entry). x .length) (c .before .entry-at .ensures ∙ ap (entryAt (c₈ .args .file .now)) i) in
     omega (arith, w .range, n)
 
 returns-2 : tie.Need-returns-2
@@ -46,7 +49,7 @@ returns-2 c =
     let e = told (c .before .before .before .before) in
     let z = c .before .before .if1 .left in
     let w = located-found _ _ _ _ e z in
-    let n = located-number _ _ _ _ e in
+    let n = located-refusal _ _ _ _ e in
     let x = c .before .entry-at .ensures ∙ ap (entryAt (a .file .now)) (located-position _ _ _ _ e z) in
     let r = record-done (a .key .now) (a .file .now) (a .place) (sym n ∙ z) in (
       sym z ∙ n,

@@ -22,15 +22,17 @@ loop-holds c = (refl, omega arith, refl)
 
 returns : tie.Need-returns Inv-loop μ-loop
 returns c =
+    let c₃ = c .before .before .before in
     let l = c .before .before .loop in
     let h = c .if1 .taken in
-    (digit-last (c .before .before .before .args .n) (l .bytes) (l .i) (l .rest) (omega arith) (omega arith) (l .inv .0) h _ (omega arith), omega arith, simp length-set (l .inv .2))
+    (digit-last (c₃ .args .n) (l .bytes) (l .i) (l .rest) (omega arith) (omega arith) (l .inv .0) h _ (omega arith), omega arith, simp length-set (l .inv .2))
 
 loop-again : tie.Need-loop-again Inv-loop μ-loop
 loop-again c =
+    let c₃ = c .before .before .before in
     let l = c .before .before .loop in
     let h = c .if1 .left in
-    (digit-more (c .before .before .before .args .n) (l .bytes) (l .i) (l .rest) (omega arith) (omega arith) (l .inv .0) h _ (omega arith), omega arith, simp length-set (l .inv .2))
+    (digit-more (c₃ .args .n) (l .bytes) (l .i) (l .rest) (omega arith) (omega arith) (l .inv .0) h _ (omega arith), omega arith, simp length-set (l .inv .2))
 
 returns-2 : tie.Need-returns-2 Inv-loop μ-loop
 returns-2 c =

@@ -20,20 +20,27 @@ array-share-prefix-text c =
 
 slice-aggregate-put-bytes : tie.Need-slice-aggregate-put-bytes
 slice-aggregate-put-bytes c =
-    let h = listing-length (c .before .before .before .before .before .before .before .before .args .f .now) in
-    sym (length-take-le (c .before .before .before .before .put-listing .result) (c .before .before .before .before .put-listing .last .1 .0) (omega (arith, h, c .before .before .before .before .put-listing .ensures .0, c .before .before .before .before .put-listing .kept)))
+    let c₄ = c .before .before .before .before in
+    let c₈ = c₄ .before .before .before .before in
+    let h = listing-length (c₈ .args .f .now) in
+    sym (length-take-le (c₄ .put-listing .result) (c₄ .put-listing .last .1 .0) (omega (arith, h, c₄ .put-listing .ensures .0, c₄ .put-listing .kept)))
 
 put-bytes-requires : tie.Need-put-bytes-requires
 put-bytes-requires c κs =
-    let h = listing-length (c .before .before .before .before .before .before .before .before .args .f .now) in
-    let l = length-take-le (c .before .before .before .before .put-listing .result) (c .before .before .before .before .put-listing .last .1 .0) (omega (arith, h, c .before .before .before .before .put-listing .ensures .0, c .before .before .before .before .put-listing .kept)) in
+    let c₄ = c .before .before .before .before in
+    let c₈ = c₄ .before .before .before .before in
+    let h = listing-length (c₈ .args .f .now) in
+    let l = length-take-le (c₄ .put-listing .result) (c₄ .put-listing .last .1 .0) (omega (arith, h, c₄ .put-listing .ensures .0, c₄ .put-listing .kept)) in
     omega (arith, l, c .before .before .if1)
 
 returns-2 : tie.Need-returns-2
 returns-2 c =
-    let a = c .before .before .before .before .before .before .before .before .before .before .before .args in
-    let p = c .before .before .before .before .before .before .before .put-listing in
-    list-done (a .f .now) (a .out .now) _ _ _ _ (p .ensures .0) (p .ensures .1) (c .before .before .before .before .before .if1 .left) (c .before .before .put-bytes .ensures .1)
+    let c₅ = c .before .before .before .before .before in
+    let c₇ = c₅ .before .before in
+    let c₁₁ = c₇ .before .before .before .before in
+    let a = c₁₁ .args in
+    let p = c₇ .put-listing in
+    list-done (a .f .now) (a .out .now) _ _ _ _ (p .ensures .0) (p .ensures .1) (c₅ .if1 .left) (c .before .before .put-bytes .ensures .1)
 
 pub list-front-spec : {M : Type 1} → statement M
 list-front-spec =

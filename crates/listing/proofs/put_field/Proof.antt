@@ -14,10 +14,13 @@ part-put-bytes-end c =
 
 returns : tie.Need-returns
 returns c =
-    let a = c .before .before .before .before .before .before .before .before .before .before .before .before .before .before .args in
-    let l : length (c .before .before .before .before .before .before .before .digits-of .result .bytes) ≡ 20 = c .before .before .before .before .before .before .before .digits-of .ensures .2 in
-    field-put (a .out .now) _ _ (a .word .now) (c .before .before .before .before .before .before .before .digits-of .result .bytes) (a .at) _ _ (a .n) _ (c .before .before .before .before .before .before .before .before .before .before .before .before .before .before .pre) l (c .before .before .before .before .before .before .before .digits-of .ensures .1)
-    (c .before .before .before .before .before .before .before .digits-of .ensures .0) (c .before .before .before .before .before .before .before .before .before .before .put-bytes .ensures .0) (c .before .before .before .before .before .before .before .before .before .before .put-bytes .ensures .1) (c .before .before .put-bytes2 .ensures .0) (c .before .before .put-bytes2 .ensures .1)
+    let c₇ = c .before .before .before .before .before .before .before in
+    let c₁₀ = c₇ .before .before .before in
+    let c₁₄ = c₁₀ .before .before .before .before in
+    let a = c₁₄ .args in
+    let l : length (c₇ .digits-of .result .bytes) ≡ 20 = c₇ .digits-of .ensures .2 in
+    field-put (a .out .now) _ _ (a .word .now) (c₇ .digits-of .result .bytes) (a .at) _ _ (a .n) _ (c₁₄ .pre) l (c₇ .digits-of .ensures .1)
+    (c₇ .digits-of .ensures .0) (c₁₀ .put-bytes .ensures .0) (c₁₀ .put-bytes .ensures .1) (c .before .before .put-bytes2 .ensures .0) (c .before .before .put-bytes2 .ensures .1)
 
 pub put-field-spec : {M : Type 1} → statement M
 put-field-spec =

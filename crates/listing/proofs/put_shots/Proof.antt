@@ -28,27 +28,31 @@ loop-holds c = (omega arith, omega arith, omega arith, refl, refl, refl)
 
 loop-again : tie.Need-loop-again Inv-loop μ-loop
 loop-again c =
-    let l = c .before .before .before .before .before .before .before .before .before .loop in
-    let f = c .before .before .before .before .before .before .before .before .before .before .before .before .before .args .f .now in
+    let c₇ = c .before .before .before .before .before .before .before in
+    let c₉ = c₇ .before .before in
+    let c₁₃ = c₉ .before .before .before .before in
+    let l = c₉ .loop in
+    let f = c₁₃ .args .f .now in
     let p = c .before .before .put-shot in
     let e : l .left ≡ suc (l .left - 1) = omega arith in
     let h : l .at + 78 * suc (l .left - 1) ≤ length (l .out) = omega arith in
     let k : l .at + 78 ≤ length (l .out) = omega arith in
-    let s = shot-length (c .before .before .before .before .before .before .before .entry-at .result .shot .0) (c .before .before .before .before .before .before .before .entry-at .result .offset) (c .before .before .before .before .before .before .before .entry-at .result .length) in (
+    let s = shot-length (c₇ .entry-at .result .shot .0) (c₇ .entry-at .result .offset) (c₇ .entry-at .result .length) in (
       omega arith,
       omega arith,
       omega (arith, p .ensures .0, p .kept .0, s),
       search needs,
-      shots-bytes f (l .left - 1) (l .position) (c .before .before .before .before .before .before .before .entry-at .result) (c .before .before .before .before .before .before .before .entry-at .ensures) (l .at) _ (l .out) _ h (p .ensures .0) (p .ensures .1)
+      shots-bytes f (l .left - 1) (l .position) (c₇ .entry-at .result) (c₇ .entry-at .ensures) (l .at) _ (l .out) _ h (p .ensures .0) (p .ensures .1)
           ∙ ap (λ (n : ℕ). putBytes (l .out) (l .at) (shotLines (entriesAt n (l .position) f))) (sym e) ∙ l .inv .4,
-      shots-index f (l .left - 1) (l .position) (c .before .before .before .before .before .before .before .entry-at .result) (c .before .before .before .before .before .before .before .entry-at .ensures) (l .at) _ (l .out) _ h (p .ensures .0) (p .ensures .1)
+      shots-index f (l .left - 1) (l .position) (c₇ .entry-at .result) (c₇ .entry-at .ensures) (l .at) _ (l .out) _ h (p .ensures .0) (p .ensures .1)
           ∙ ap (λ (n : ℕ). l .at + length (shotLines (entriesAt n (l .position) f))) (sym e) ∙ l .inv .5,
     )
 
 returns : tie.Need-returns Inv-loop μ-loop
 returns c =
+    let c₅ = c .before .before .before .before .before in
     let l = c .before .loop in
-    let f = c .before .before .before .before .before .args .f .now in
+    let f = c₅ .args .f .now in
     let e : l .left ≡ 0 = omega arith in
     let z : shotLines (entriesAt (l .left) (l .position) f) ≡ shotLines (entriesAt 0 (l .position) f) = ap (λ (n : ℕ). shotLines (entriesAt n (l .position) f)) e in
     let y = z ∙ no-shots f 0 (l .position) in (

@@ -6,7 +6,9 @@ use Rattle.reader.proofs.entry_at.Statement.{statement}
 use Rattle.reader.proofs.entry_at.Tie as tie
 
 returns : tie.Need-returns
-returns c = entry-same (c .before .before .before .load-le .ensures .0) (c .before .before .load-le2 .ensures .0) (c .before .load-le3 .ensures .0) (c .load-le4 .ensures .0)
+returns c =
+    let c₃ = c .before .before .before in
+    entry-same (c₃ .load-le .ensures .0) (c .before .before .load-le2 .ensures .0) (c .before .load-le3 .ensures .0) (c .load-le4 .ensures .0)
 
 pub entry-at-spec : {M : Type 1} → statement M
 entry-at-spec =

@@ -9,14 +9,17 @@ use Rattle.burst.specs.declared.Entry.{Entry}
 use Rattle.reader.specs.declared.Fetched.{Fetched}
 use Rattle.reader.specs.Front.{entryAt, positionOf}
 use Rattle.reader.specs.Reader.{recordPart, agrees, markIn, bodyIn}
-use Rattle.reader.proofs.Answers.{located-number, located-mark, located-found, located-position, fetch-refused, fetch-5, fetch-0}
+use Rattle.reader.proofs.Answers.{located-refusal, located-mark, located-found, located-position, fetch-refused, fetch-5, fetch-0}
 use Rattle.reader.proofs.fetch.Statement.{statement}
 use Rattle.reader.proofs.fetch.Tie as tie
 
 returns : tie.Need-returns
 returns c =
-    let a = c .before .before .before .before .before .before .before .args in
-    let p = fetch-refused (a .key .now) (a .f .now) (a .place .0) (a .out .now) _ _ (located-number _ _ _ _ (c .before .before .before .locate .ensures)) (located-mark _ _ _ _ (c .before .before .before .locate .ensures)) (c .before .if1 .taken) in
+    let c₃ = c .before .before .before in
+    let c₇ = c₃ .before .before .before .before in
+    let a = c₇ .args in
+    let p = fetch-refused (a .key .now) (a .f .now) (a .place .0) (a .out .now) _ _ (located-refusal _ _ _ _ (c₃ .locate .ensures)) (located-mark _ _ _ _ (c₃ .locate .ensures))
+    (c .before .if1 .taken) in
     (c .not-fetched .ensures ∙ p .0, p .1)
 
 entry-at-requires : tie.Need-entry-at-requires
@@ -27,25 +30,33 @@ entry-at-requires c κs =
 
 returns-2 : tie.Need-returns-2
 returns-2 c =
-    let a = c .before .before .before .before .before .before .before .before .before .before .args in
-    let w = located-found _ _ _ _ (c .before .before .before .before .before .before .locate .ensures) (c .before .before .before .before .if1 .left) in
-    let e = c .before .before .before .entry-at .ensures ∙ ap (entryAt (a .f .now)) (located-position _ _ _ _ (c .before .before .before .before .before .before .locate .ensures) (c .before .before .before .before .if1 .left)) in
+    let c₃ = c .before .before .before in
+    let c₄ = c₃ .before in
+    let c₆ = c₄ .before .before in
+    let c₁₀ = c₆ .before .before .before .before in
+    let a = c₁₀ .args in
+    let w = located-found _ _ _ _ (c₆ .locate .ensures) (c₄ .if1 .left) in
+    let e = c₃ .entry-at .ensures ∙ ap (entryAt (a .f .now)) (located-position _ _ _ _ (c₆ .locate .ensures) (c₄ .if1 .left)) in
     let n = ap (λ (x : Entry). x .length) e in
     let p = fetch-5 (a .key .now) (a .f .now) (a .place .0) (a .out .now) w (omega (arith, n, c .before .if2)) in
     (c .not-fetched2 .ensures ∙ p .0, p .1)
 
 open-record-requires : tie.Need-open-record-requires
 open-record-requires c κs =
-    let a = c .before .before .before .before .before .before .before .before .before .before .args in
-    let w = located-found _ _ _ _ (c .before .before .before .before .before .before .locate .ensures) (c .before .before .before .before .if1 .left) in
-    let i = located-position _ _ _ _ (c .before .before .before .before .before .before .locate .ensures) (c .before .before .before .before .if1 .left) in
-    let e = c .before .before .before .entry-at .ensures ∙ ap (entryAt (a .f .now)) i in
+    let c₃ = c .before .before .before in
+    let c₄ = c₃ .before in
+    let c₆ = c₄ .before .before in
+    let c₁₀ = c₆ .before .before .before .before in
+    let a = c₁₀ .args in
+    let w = located-found _ _ _ _ (c₆ .locate .ensures) (c₄ .if1 .left) in
+    let i = located-position _ _ _ _ (c₆ .locate .ensures) (c₄ .if1 .left) in
+    let e = c₃ .entry-at .ensures ∙ ap (entryAt (a .f .now)) i in
     let n = ap (λ (x : Entry). x .length) e in
     let o = ap (λ (x : Entry). x .offset) e in
     let g = w .accepted .front in (
       w .accepted .key16,
       omega (arith, g),
-      c .before .before .before .entry-at .ensures,
+      c₃ .entry-at .ensures,
       ap (λ (p : ℕ). agrees (a .key .now) (a .f .now) (recordPart (a .f .now) p)) i ∙ w .agrees,
       omega (arith, g, w .below, i),
       omega (arith, g, w .range, n, o),
@@ -55,16 +66,21 @@ open-record-requires c κs =
 
 returns-3 : tie.Need-returns-3
 returns-3 c =
-    let a = c .before .before .before .before .before .before .before .before .before .before .before .before .before .args in
+    let c₄ = c .before .before .before .before in
+    let c₆ = c₄ .before .before in
+    let c₇ = c₆ .before in
+    let c₉ = c₇ .before .before in
+    let c₁₃ = c₉ .before .before .before .before in
+    let a = c₁₃ .args in
     let k = a .key .now in
     let f = a .f .now in
-    let w = located-found _ _ _ _ (c .before .before .before .before .before .before .before .before .before .locate .ensures) (c .before .before .before .before .before .before .before .if1 .left) in
-    let i = located-position _ _ _ _ (c .before .before .before .before .before .before .before .before .before .locate .ensures) (c .before .before .before .before .before .before .before .if1 .left) in
-    let e = c .before .before .before .before .before .before .entry-at .ensures ∙ ap (entryAt f) i in
+    let w = located-found _ _ _ _ (c₉ .locate .ensures) (c₇ .if1 .left) in
+    let i = located-position _ _ _ _ (c₉ .locate .ensures) (c₇ .if1 .left) in
+    let e = c₆ .entry-at .ensures ∙ ap (entryAt f) i in
     let n = ap (λ (x : Entry). x .length) e in
-    let p = fetch-0 k f (a .place .0) (a .out .now) w (omega (arith, n, c .before .before .before .before .if2)) in (
+    let p = fetch-0 k f (a .place .0) (a .out .now) w (omega (arith, n, c₄ .if2)) in (
       c .before .before .open-record .ensures .0
-          ∙ ap (λ (x : Entry). let y : Fetched = record { refusal = 0; mark = 0; shot = x .shot; stamp = markIn k f (recordPart f (c .before .before .before .before .before .before .before .before .before .locate .result .position)); length = x .length } in y) e
+          ∙ ap (λ (x : Entry). let y : Fetched = record { refusal = 0; mark = 0; shot = x .shot; stamp = markIn k f (recordPart f (c₉ .locate .result .position)); length = x .length } in y) e
           ∙ ap (λ (j : ℕ). let y : Fetched = record { refusal = 0; mark = 0; shot = entryAt f (positionOf f (a .place .0)) .shot; stamp = markIn k f (recordPart f j); length = entryAt f (positionOf f (a .place .0)) .length } in y) i
           ∙ p .0,
       c .before .before .open-record .ensures .1 ∙ ap (λ (j : ℕ). putBytes (a .out .now) 0 (bodyIn k f (recordPart f j))) i ∙ p .1,

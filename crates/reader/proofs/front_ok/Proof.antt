@@ -12,7 +12,8 @@ use Rattle.reader.proofs.front_ok.Statement.{statement}
 use Rattle.reader.proofs.front_ok.Tie as tie
 
 -- the rules, where all of them hold
-told : (c : tie.After-edition-in) → frontRules (c .before .before .before .before .args .f .now) ≡ true → Reads (c .before .before .before .before .args .f .now) (c .edition-in .result) (c .before .header-in .result)
+told : (c : tie.After-edition-in) → frontRules (c .before .before .before .before .args .f .now) ≡ true
+    → Reads (c .before .before .before .before .args .f .now) (c .edition-in .result) (c .before .header-in .result)
 told c t = reads _ _ _ (c .before .header-in .ensures) (c .edition-in .ensures .0) (front _ t)
 
 returns : tie.Need-returns
@@ -28,46 +29,85 @@ returns-4 : tie.Need-returns-4
 returns-4 c = refuted _ (λ t. c .if4 .taken (told (c .before .before .before .before .before .before .before .before) t .pictures))
 
 returns-5 : tie.Need-returns-5
-returns-5 c = refuted _ (λ t. let w = told (c .before .before .before .before .before .before .before .before .before .before .before) t in omega (arith, w, c .if5))
+returns-5 c =
+    let c₁₁ = c .before .before .before .before .before .before .before .before .before .before .before in
+    refuted _ (λ t. let w = told c₁₁ t in omega (arith, w, c .if5))
 
 returns-6 : tie.Need-returns-6
-returns-6 c = refuted _ (λ t. c .if6 .taken (told (c .before .before .before .before .before .before .before .before .before .before .before .before .before .before .before) t .counts))
+returns-6 c =
+    let c₁₂ = c .before .before .before .before .before .before .before .before .before .before .before .before in
+    let c₁₅ = c₁₂ .before .before .before in
+    refuted _ (λ t. c .if6 .taken (told c₁₅ t .counts))
 
 returns-7 : tie.Need-returns-7
-returns-7 c = refuted _ (λ t. let w = told (c .before .before .before .before .before .before .before .before .before .before .before .before .before .before .before .before .before .before .before) t in c .if7 .taken (omega (arith, w .closing, c .before .index-length .ensures)))
+returns-7 c =
+    let c₁₂ = c .before .before .before .before .before .before .before .before .before .before .before .before in
+    let c₁₉ = c₁₂ .before .before .before .before .before .before .before in
+    refuted _ (λ t. let w = told c₁₉ t in c .if7 .taken (omega (arith, w .closing, c .before .index-length .ensures)))
 
 returns-8 : tie.Need-returns-8
-returns-8 c = refuted _ (λ t. c .if8 .taken (told (c .before .before .before .before .before .before .before .before .before .before .before .before .before .before .before .before .before .before .before .before .before) t .total))
+returns-8 c =
+    let c₁₂ = c .before .before .before .before .before .before .before .before .before .before .before .before in
+    let c₂₁ = c₁₂ .before .before .before .before .before .before .before .before .before in
+    refuted _ (λ t. c .if8 .taken (told c₂₁ t .total))
 
 returns-9 : tie.Need-returns-9
-returns-9 c = refuted _ (λ t. c .if9 .taken (told (c .before .before .before .before .before .before .before .before .before .before .before .before .before .before .before .before .before .before .before .before .before .before .before) t .size))
+returns-9 c =
+    let c₁₂ = c .before .before .before .before .before .before .before .before .before .before .before .before in
+    let c₂₃ = c₁₂ .before .before .before .before .before .before .before .before .before .before .before in
+    refuted _ (λ t. c .if9 .taken (told c₂₃ t .size))
 
 returns-10 : tie.Need-returns-10
-returns-10 c = refuted _ (λ t. clash _ (told (c .before .before .before .before .before .before .before .before .before .before .before .before .before .before .before .before .before .before .before .before .before .before .before .before .before) t .rest) (sym (c .before .rest-ok .ensures) ∙ not-true _ (c .if10 .taken)))
+returns-10 c =
+    let c₁₂ = c .before .before .before .before .before .before .before .before .before .before .before .before in
+    let c₂₅ = c₁₂ .before .before .before .before .before .before .before .before .before .before .before .before .before in
+    refuted _ (λ t. clash _ (told c₂₅ t .rest) (sym (c .before .rest-ok .ensures) ∙ not-true _ (c .if10 .taken)))
 
 add-if2 : tie.Need-add-if2
 add-if2 c = let k = c .before .edition-in .ensures .1 in omega (arith, k)
 
 rest-ok-requires : tie.Need-rest-ok-requires
-rest-ok-requires c κs = omega (arith, c .before .before .before .before .before .before .before .before .before .before .before .before .before .before .before .before .before .before .before .before .before .if2)
+rest-ok-requires c κs =
+    let c₁₂ = c .before .before .before .before .before .before .before .before .before .before .before .before in
+    let c₂₁ = c₁₂ .before .before .before .before .before .before .before .before .before in
+    omega (arith, c₂₁ .if2)
 
 index-ok-requires : tie.Need-index-ok-requires
-index-ok-requires c κs = let k = c .before .before .before .before .before .before .before .before .before .before .before .before .before .before .before .before .before .before .before .before .before .before .before .before .before .edition-in .ensures .1 in omega (arith, k, c .before .before .before .before .before .before .before .before .before .before .before .before .before .before .if5, c .before .before .before .before .before .before .before .before .before .before .if6, c .before .before .before .before .before .before .if7, c .before .before .before .before .before .before .before .index-length .ensures, c .before .before .before .before .if8, c .before .before .if9)
+index-ok-requires c κs =
+    let c₄ = c .before .before .before .before in
+    let c₆ = c₄ .before .before in
+    let c₇ = c₆ .before in
+    let c₁₀ = c₇ .before .before .before in
+    let c₁₄ = c₁₀ .before .before .before .before in
+    let c₂₅ = c₁₄ .before .before .before .before .before .before .before .before .before .before .before in
+    let k = c₂₅ .edition-in .ensures .1 in omega (arith, k, c₁₄ .if5, c₁₀ .if6, c₆ .if7, c₇ .index-length .ensures, c₄ .if8, c .before .before .if9)
 
 returns-11 : tie.Need-returns-11
 returns-11 c =
+    let c₃ = c .before .before .before in
+    let c₅ = c₃ .before .before in
+    let c₇ = c₅ .before .before in
+    let c₈ = c₇ .before in
+    let c₁₁ = c₈ .before .before .before in
+    let c₁₅ = c₁₁ .before .before .before .before in
+    let c₁₈ = c₁₅ .before .before .before in
+    let c₂₁ = c₁₈ .before .before .before in
+    let c₂₄ = c₂₁ .before .before .before in
+    let c₂₆ = c₂₄ .before .before in
+    let c₂₇ = c₂₆ .before in
+    let c₃₀ = c₂₇ .before .before .before in
     c .index-ok .ensures
-    ∙ reads-is (c .before .before .before .before .before .before .before .before .before .before .before .before .before .before .before .before .before .before .before .before .before .before .before .before .before .before .before .before .before .before .args .f .now) (c .before .before .before .before .before .before .before .before .before .before .before .before .before .before .before .before .before .before .before .before .before .before .before .before .before .before .edition-in .result) (c .before .before .before .before .before .before .before .before .before .before .before .before .before .before .before .before .before .before .before .before .before .before .before .before .before .before .before .header-in .result) (c .before .before .before .before .before .before .before .before .before .before .before .before .before .before .before .before .before .before .before .before .before .before .before .before .before .before .before .header-in .ensures) (c .before .before .before .before .before .before .before .before .before .before .before .before .before .before .before .before .before .before .before .before .before .before .before .before .before .before .edition-in .ensures .0)
+    ∙ reads-is (c₃₀ .args .f .now) (c₂₆ .edition-in .result) (c₂₇ .header-in .result) (c₂₇ .header-in .ensures) (c₂₆ .edition-in .ensures .0)
     (record {
-      known = c .before .before .before .before .before .before .before .before .before .before .before .before .before .before .before .before .before .before .before .before .before .before .before .before .before .before .edition-in .ensures .1;
-      least = omega (arith, c .before .before .before .before .before .before .before .before .before .before .before .before .before .before .before .before .before .before .before .before .before .before .before .before .if2);
-      edition = omega (arith, c .before .before .before .before .before .before .before .before .before .before .before .before .before .before .before .before .before .before .before .before .before .if3);
-      pictures = omega (arith, c .before .before .before .before .before .before .before .before .before .before .before .before .before .before .before .before .before .before .if4);
-      most = omega (arith, c .before .before .before .before .before .before .before .before .before .before .before .before .before .before .before .if5);
-      counts = omega (arith, c .before .before .before .before .before .before .before .before .before .before .before .if6);
-      closing = omega (arith, c .before .before .before .before .before .before .before .if7, c .before .before .before .before .before .before .before .before .index-length .ensures);
-      total = omega (arith, c .before .before .before .before .before .if8);
-      size = omega (arith, c .before .before .before .if9);
+      known = c₂₆ .edition-in .ensures .1;
+      least = omega (arith, c₂₄ .if2);
+      edition = omega (arith, c₂₁ .if3);
+      pictures = omega (arith, c₁₈ .if4);
+      most = omega (arith, c₁₅ .if5);
+      counts = omega (arith, c₁₁ .if6);
+      closing = omega (arith, c₇ .if7, c₈ .index-length .ensures);
+      total = omega (arith, c₅ .if8);
+      size = omega (arith, c₃ .if9);
       rest = sym (c .before .before .rest-ok .ensures) ∙ not-false _ (c .before .if10 .left);
     })
 

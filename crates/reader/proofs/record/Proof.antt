@@ -8,14 +8,14 @@ use borrow.Author.Needs.{needs}
 use lib.ListN.{take, drop}
 use Rattle.burst.specs.declared.Entry.{Entry}
 use Rattle.reader.specs.Front.{entryAt}
-use Rattle.reader.proofs.Answers.{located-number, located-mark, located-found, located-position, record-refused, record-done}
+use Rattle.reader.proofs.Answers.{located-refusal, located-mark, located-found, located-position, record-refused, record-done}
 use Rattle.reader.proofs.record.Statement.{statement}
 use Rattle.reader.proofs.record.Tie as tie
 
 returns : tie.Need-returns
 returns c =
     let a = c .before .before .before .before .before .before .args in
-    let n = located-number _ _ _ _ (c .before .before .before .locate .ensures) in
+    let n = located-refusal _ _ _ _ (c .before .before .before .locate .ensures) in
     let m = located-mark _ _ _ _ (c .before .before .before .locate .ensures) in
     let p = record-refused (a .key .now) (a .f .now) (a .place .0) (λ z. c .before .if1 .taken (n ∙ z)) in
     (p .0, refl, sym (add-zero _) ∙ ap (λ (i : ℕ). a .f .ptr .1 + i) (p .1), n, m)
@@ -37,14 +37,18 @@ part-result-end c =
 
 returns-2 : tie.Need-returns-2
 returns-2 c =
-    let a = c .before .before .before .before .before .before .before .before .before .args in
+    let c₃ = c .before .before .before in
+    let c₄ = c₃ .before in
+    let c₆ = c₄ .before .before in
+    let c₉ = c₆ .before .before .before in
+    let a = c₉ .args in
     let f = a .f .now in
-    let n = located-number _ _ _ _ (c .before .before .before .before .before .before .locate .ensures) in
-    let m = located-mark _ _ _ _ (c .before .before .before .before .before .before .locate .ensures) in
-    let i = located-position _ _ _ _ (c .before .before .before .before .before .before .locate .ensures) (c .before .before .before .before .if1 .left) in
-    let e = c .before .before .before .entry-at .ensures ∙ ap (entryAt f) i in
-    let p = record-done (a .key .now) f (a .place .0) (sym n ∙ c .before .before .before .before .if1 .left) in
-    let x = c .before .before .before .entry-at .result in
+    let n = located-refusal _ _ _ _ (c₆ .locate .ensures) in
+    let m = located-mark _ _ _ _ (c₆ .locate .ensures) in
+    let i = located-position _ _ _ _ (c₆ .locate .ensures) (c₄ .if1 .left) in
+    let e = c₃ .entry-at .ensures ∙ ap (entryAt f) i in
+    let p = record-done (a .key .now) f (a .place .0) (sym n ∙ c₄ .if1 .left) in
+    let x = c₃ .entry-at .result in
     let q : x .offset + (x .length + 32) - x .offset ≡ x .length + 32 = omega arith in (
       ap (λ (k : ℕ). take k (drop (x .offset) f)) q ∙ ap (λ (y : Entry). take (y .length + 32) (drop (y .offset) f)) e ∙ p .0,
       refl,

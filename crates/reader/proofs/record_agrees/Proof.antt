@@ -18,24 +18,28 @@ part-verify-part-end-2 c =
 
 verify-part-requires : tie.Need-verify-part-requires
 verify-part-requires c κs =
-    let p = c .before .before .before .before .before .before .before .before .pre in
-    let n = ap (λ (x : Entry). x .length) (c .before .before .before .before .before .entry-at .ensures) in
-    let o = ap (λ (x : Entry). x .offset) (c .before .before .before .before .before .entry-at .ensures) in
-    let l = lent (c .before .before .before .before .before .before .before .before .args .f .now) (c .before .before .before .before .before .before .before .before .args .position) (c .before .before .before .before .before .entry-at .result) (p .3) (omega (arith, n, o, p)) in
+    let c₅ = c .before .before .before .before .before in
+    let c₈ = c₅ .before .before .before in
+    let p = c₈ .pre in
+    let n = ap (λ (x : Entry). x .length) (c₅ .entry-at .ensures) in
+    let o = ap (λ (x : Entry). x .offset) (c₅ .entry-at .ensures) in
+    let l = lent (c₈ .args .f .now) (c₈ .args .position) (c₅ .entry-at .result) (p .3) (omega (arith, n, o, p)) in
     (p .0, omega (arith, l), omega (arith, l), omega (arith, l, n, p))
 
 returns : tie.Need-returns
 returns c =
-    let a = c .before .before .before .before .before .before .before .before .before .before .args in
-    let p = c .before .before .before .before .before .before .before .before .before .before .pre in
+    let c₇ = c .before .before .before .before .before .before .before in
+    let c₁₀ = c₇ .before .before .before in
+    let a = c₁₀ .args in
+    let p = c₁₀ .pre in
     let f = a .f .now in
-    let x = c .before .before .before .before .before .before .before .entry-at .result in
-    let n = ap (λ (x : Entry). x .length) (c .before .before .before .before .before .before .before .entry-at .ensures) in
-    let o = ap (λ (x : Entry). x .offset) (c .before .before .before .before .before .before .before .entry-at .ensures) in
+    let x = c₇ .entry-at .result in
+    let n = ap (λ (x : Entry). x .length) (c₇ .entry-at .ensures) in
+    let o = ap (λ (x : Entry). x .offset) (c₇ .entry-at .ensures) in
     let l = lent f (a .position) x (p .3) (omega (arith, n, o, p)) in
     tag-told (a .key .now) f (recordPart f (a .position)) _
     (c .before .verify-part .ensures
-    ∙ record-answer (a .key .now) f (a .e) (p .1) (a .name) (p .2) (a .position) x (c .before .before .before .before .before .before .before .entry-at .ensures) _ (append-nil _ ∙ l .entry) _ (l .sealed))
+    ∙ record-answer (a .key .now) f (a .e) (p .1) (a .name) (p .2) (a .position) x (c₇ .entry-at .ensures) _ (append-nil _ ∙ l .entry) _ (l .sealed))
 
 pub record-agrees-spec : {M : Type 1} → statement M
 record-agrees-spec =

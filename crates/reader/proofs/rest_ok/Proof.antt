@@ -5,8 +5,8 @@ use Prim.Native.Nat.{_-_}
 use native.Mathlib.Omega.{arith}
 use borrow.Author.Needs.{needs}
 use lib.ListN.{take, drop}
-use Rattle.burst.specs.Editions.{fieldsLength}
 use Rattle.reader.specs.Front.{allZero, restRules}
+use Rattle.burst.specs.Fields.{fieldsLength}
 use Rattle.reader.proofs.Rules.{byte-zero, byte-not, bytes-end}
 use Rattle.reader.proofs.rest_ok.Statement.{statement}
 use Rattle.reader.proofs.rest_ok.Tie as tie
@@ -20,17 +20,23 @@ abbrev μ-loop : tie.MeasureT-loop
 returns : tie.Need-returns Inv-loop μ-loop
 unfolding restRules
 returns c =
-    let a = c .before .before .before .before .before .args in
-    sym (c .before .before .before .loop .inv ∙ byte-not (a .f .now) (a .e .header) (c .before .before .before .loop .i) (omega (arith, c .before .before .loop-test)) (omega (arith, c .before .before .before .before .before .pre)) (c .if1 .taken))
+    let c₃ = c .before .before .before in
+    let c₅ = c₃ .before .before in
+    let a = c₅ .args in
+    sym (c₃ .loop .inv ∙ byte-not (a .f .now) (a .e .header) (c₃ .loop .i) (omega (arith, c .before .before .loop-test)) (omega (arith, c₅ .pre)) (c .if1 .taken))
 
 loop-again : tie.Need-loop-again Inv-loop μ-loop
 loop-again c =
-    let a = c .before .before .before .before .before .args in
-    c .before .before .before .loop .inv ∙ byte-zero (a .f .now) (a .e .header) (c .before .before .before .loop .i) (omega (arith, c .before .before .loop-test)) (omega (arith, c .before .before .before .before .before .pre)) (c .if1 .left)
+    let c₃ = c .before .before .before in
+    let c₅ = c₃ .before .before in
+    let a = c₅ .args in
+    c₃ .loop .inv ∙ byte-zero (a .f .now) (a .e .header) (c₃ .loop .i) (omega (arith, c .before .before .loop-test)) (omega (arith, c₅ .pre)) (c .if1 .left)
 
 returns-2 : tie.Need-returns-2 Inv-loop μ-loop
 unfolding restRules
-returns-2 c = sym (c .before .loop .inv ∙ bytes-end (c .before .before .before .args .f .now) (c .before .before .before .args .e .header) (c .before .loop .i) (omega (arith, c .loop-test)))
+returns-2 c =
+    let c₃ = c .before .before .before in
+    sym (c .before .loop .inv ∙ bytes-end (c₃ .args .f .now) (c₃ .args .e .header) (c .before .loop .i) (omega (arith, c .loop-test)))
 
 pub rest-ok-spec : {M : Type 1} → statement M
 rest-ok-spec =

@@ -6,8 +6,8 @@ use native.Mathlib.Omega.{arith}
 use borrow.Author.Needs.{needs}
 use lib.ListN.{length, take, drop, length-drop}
 use lib.Seq.{length-take-le}
+use Rattle.burst.specs.Fields.{entryLength}
 use Rattle.burst.specs.Parts.{sealLength}
-use Rattle.burst.specs.Layout.{entryLength}
 use Rattle.reader.proofs.Rules.{Reads, front, reads}
 use Rattle.reader.proofs.Opens.{closing-answer}
 use Rattle.reader.proofs.verify_closing.Statement.{statement}
@@ -18,7 +18,9 @@ here : (s : tie.Start) → Reads (s .args .f .now) (s .args .e) (s .args .h)
 here s = reads _ _ _ (s .pre .4) (s .pre .2) (front _ (s .pre .1))
 
 slice-aggregate-verify-part : tie.Need-slice-aggregate-verify-part
-slice-aggregate-verify-part c = let g = here (c .before .before .before .before .before .before) in sym (length-take-le (c .before .before .before .before .before .before .args .e .header) (c .before .before .before .before .before .before .args .f .now) (omega (arith, g)))
+slice-aggregate-verify-part c =
+    let c₆ = c .before .before .before .before .before .before in
+    let g = here c₆ in sym (length-take-le (c₆ .args .e .header) (c₆ .args .f .now) (omega (arith, g)))
 
 sub-verify-part : tie.Need-sub-verify-part
 sub-verify-part c = let g = here (c .before .before .before .before .before .before) in omega (arith, g)

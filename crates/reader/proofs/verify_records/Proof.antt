@@ -22,11 +22,12 @@ abbrev μ-loop : tie.MeasureT-loop
 
 record-agrees-requires : tie.Need-record-agrees-requires Inv-loop μ-loop
 record-agrees-requires c κs =
-    let p = c .before .before .before .before .before .pre in
+    let c₅ = c .before .before .before .before .before in
+    let p = c₅ .pre in
     let l = c .before .loop in
-    let f = c .before .before .before .before .before .args .f .now in
+    let f = c₅ .args .f .now in
     let w = front f (p .1) in
-    let g = in-range-at f (l .position) (c .before .before .before .before .before .args .kept .0 - l .left) w (omega (arith, l, p)) (omega (arith, l, p)) in
+    let g = in-range-at f (l .position) (c₅ .args .kept .0 - l .left) w (omega (arith, l, p)) (omega (arith, l, p)) in
     (p .0, p .2, p .3, omega (arith, w, l, p), g .most, omega (arith, w, g))
 
 entry-at-requires : tie.Need-entry-at-requires Inv-loop μ-loop
@@ -38,15 +39,19 @@ entry-at-requires c κs =
 
 returns : tie.Need-returns Inv-loop μ-loop
 returns c =
-    let l = c .before .before .before .before .before .loop in
-    let a = c .before .before .before .before .before .before .before .before .before .args in
+    let c₃ = c .before .before .before in
+    let c₄ = c₃ .before in
+    let c₅ = c₄ .before in
+    let c₉ = c₅ .before .before .before .before in
+    let l = c₅ .loop in
+    let a = c₉ .args in
     let f = a .f .now in
-    let e : l .left ≡ suc (l .left - 1) = omega (arith, l, c .before .before .before .before .loop-test) in
+    let e : l .left ≡ suc (l .left - 1) = omega (arith, l, c₄ .loop-test) in
     ap (λ (x : Entry). Differs (x .shot)) (c .before .entry-at .ensures)
     ∙ sym
     (l .inv .2
     ∙ ap (λ (n : ℕ). verdictOn (a .key .now) f (recordParts n (l .position) f)) e
-    ∙ parts-differ (a .key .now) f (l .left - 1) (l .position) (sym (c .before .before .before .record-agrees .ensures) ∙ not-true _ (c .before .before .if1 .taken)))
+    ∙ parts-differ (a .key .now) f (l .left - 1) (l .position) (sym (c₃ .record-agrees .ensures) ∙ not-true _ (c .before .before .if1 .taken)))
 
 loop-again : tie.Need-loop-again Inv-loop μ-loop
 loop-again c =

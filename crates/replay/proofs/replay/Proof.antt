@@ -17,18 +17,28 @@ returns c = nothing-done _ _ _ _ (omega arith)
 
 add-count : tie.Need-add-count
 add-count c =
-    let n = ap (λ (y : Performed). y .count) (c .before .before .before .before .before .run .ensures .0) in
-    let m = calls-most (length (c .before .before .before .before .before .before .before .before .before .before .before .before .before .before .before .before .before .before .before .before .before .before .before .before .before .before .before .before .args .answers .now) / 8 - 1) (c .before .before .before .before .before .before .before .before .before .before .before .before .before .before .before .before .before .before .before .before .before .before .before .before .before .before .before .before .args .script .now) in
-    omega (arith, n, m, c .before .before .before .before .before .before .before .before .before .before .before .before .before .before .before .before .before .before .before .before .before .before .before .before .before .before .before .before)
+    let c₅ = c .before .before .before .before .before in
+    let c₁₇ = c₅ .before .before .before .before .before .before .before .before .before .before .before .before in
+    let c₂₈ = c₁₇ .before .before .before .before .before .before .before .before .before .before .before in
+    let n = ap (λ (y : Performed). y .count) (c₅ .run .ensures .0) in
+    let m = calls-most (length (c₂₈ .args .answers .now) / 8 - 1) (c₂₈ .args .script .now) in
+    omega (arith, n, m, c₂₈)
 
 returns-2 : tie.Need-returns-2
 returns-2 c =
-    let a = c .before .before .before .before .before .before .before .before .before .before .before .before .before .before .before .before .before .before .before .before .before .before .before .before .before .before .before .before .args in
-    let a₂ = c .before .before .before .before .before .before .before .before .before .before .before .store-le2 .last .0 in
-    all-done (a .key .now) (record { name = record { «burst_number» = a .burst-number }; siteMark = a .site-mark .now }) (a .script .now) (a .buffer .now) (a .answers .now) (omega (arith, c .before .before .before .before .before .before .before .before .before .before .before .before .before .before .before .before .before .before .before .before .before .before .if1))
-    (c .before .before .before .before .before .before .before .before .before .before .before .before .before .before .before .before .before .before .before .before .begin .result) _ _ _ a₂ (take (length a₂ - 8) (drop 8 a₂)) _ (c .before .before .before .before .before .before .before .before .before .before .before .before .before .before .before .store-le .result) (length a₂ - 8) (c .before .before .before .before .before .run .result)
-    (c .before .before .before .before .before .before .before .before .before .before .before .before .before .before .before .before .before .before .before .before .begin .ensures .0) (c .before .before .before .before .before .before .before .before .before .before .before .before .before .before .before .before .before .before .before .before .begin .ensures .1) (c .before .before .before .before .before .before .before .before .before .before .before .before .before .before .before .store-le .ensures .0) (c .before .before .before .before .before .before .before .before .before .before .before .before .before .before .before .store-le .ensures .1) (c .before .before .before .before .before .before .before .before .before .before .before .store-le2 .ensures .1)
-    (c .before .before .before .before .before .run .ensures .0) (c .before .before .before .before .before .run .ensures .1) (take-all (length a₂ - 8) (drop 8 a₂) (simp length-drop (omega arith))) refl (c .before .before .before .before .before .run .ensures .2)
+    let c₅ = c .before .before .before .before .before in
+    let c₁₁ = c₅ .before .before .before .before .before .before in
+    let c₁₅ = c₁₁ .before .before .before .before in
+    let c₂₀ = c₁₅ .before .before .before .before .before in
+    let c₂₂ = c₂₀ .before .before in
+    let c₂₈ = c₂₂ .before .before .before .before .before .before in
+    let a = c₂₈ .args in
+    let a₂ = c₁₁ .store-le2 .last .0 in
+    all-done (a .key .now) (record { name = record { «burst_number» = a .burst-number }; siteMark = a .site-mark .now }) (a .script .now) (a .buffer .now) (a .answers .now)
+    (omega (arith, c₂₂ .if1))
+    (c₂₀ .begin .result) _ _ _ a₂ (take (length a₂ - 8) (drop 8 a₂)) _ (c₁₅ .store-le .result) (length a₂ - 8) (c₅ .run .result)
+    (c₂₀ .begin .ensures .0) (c₂₀ .begin .ensures .1) (c₁₅ .store-le .ensures .0) (c₁₅ .store-le .ensures .1) (c₁₁ .store-le2 .ensures .1)
+    (c₅ .run .ensures .0) (c₅ .run .ensures .1) (take-all (length a₂ - 8) (drop 8 a₂) (simp length-drop (omega arith))) refl (c₅ .run .ensures .2)
 
 pub replay-spec : {M : Type 1} → statement M
 replay-spec =
