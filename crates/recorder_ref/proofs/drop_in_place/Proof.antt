@@ -83,7 +83,8 @@ module _ {M : Type 1} (𝓤 : URA M) (H : Heap 𝓤) (A : Atoms 𝓤) (W : Given
   abbrev Post : Val → SProp 𝓤
   Post = walkOf 𝓤 H A this.ended stayed (this.clauses 𝓤 H A at-mem run) .post (((κ, tt), (q, tt), tt, x, at), tt)
 
-  exits : (k : ShotAnswer) → k ≡ dropAnswer h → Is TK.the-row k (vk k ∷ []) → ent 𝓤 (sep 𝓤 (A .obs γ (TR.the-row .coded .code (k .recorder))) (sep 𝓤 (A .bor κ (Body (mem (TR.the-row)) b o γ)) (A .lft κ q))) (Post (vk k))
+  exits : (k : ShotAnswer) → k ≡ dropAnswer h → Is TK.the-row k (vk k ∷ [])
+      → ent 𝓤 (sep 𝓤 (A .obs γ (TR.the-row .coded .code (k .recorder))) (sep 𝓤 (A .bor κ (Body (mem (TR.the-row)) b o γ)) (A .lft κ q))) (Post (vk k))
   exits k e is =
       qed W (‵ (fobs γ (TR.the-row .coded .code (k .recorder))) ∷ ‵ (fbor κ (Body (mem (TR.the-row)) b o γ)) ∷ ‵ (flft κ q) ∷ []) ∵
       suffices ! _ (ends-at 𝓤 H A this.ended stayed (this.clauses 𝓤 H A at-mem run) W (((κ, tt), (q, tt), tt, x, at), tt) (vk k) k (k .recorder, tt) (tt, tt)) $
@@ -111,18 +112,22 @@ module _ {M : Type 1} (𝓤 : URA M) (H : Heap 𝓤) (A : Atoms 𝓤) (W : Given
   module _ (C : Calls 𝓤 H) (Λ : Loops 𝓤 H) (fm : FmC 𝓤 H (W .laws) C) (known : Triple 𝓤 (C #burst·drop-shot) (Dropped 𝓤 H A at-mem run)) where
     walk : ent 𝓤 (onEntry 𝓤 H A this.signature (κ, tt) (q, tt) x at) (WpFn 𝓤 H C Λ code.function (vptr b o ∷ []) Post)
     walk =
-        qed W ((‵ (flft κ q) ⊛ ‵ ftrue) ∷ ‵ (owns (MutRef (named 0) κ TR.the-row ∷ []) x at) ∷ []) ∵ split ! $ move ! (2 ∷ []) $ fsplit ! $ fsplit3 ! $ drop ! $ move ! (0 ∷ 1 ∷ 3 ∷ []) $
+        qed W ((‵ (flft κ q) ⊛ ‵ ftrue) ∷ ‵ (owns (MutRef (named 0) κ TR.the-row ∷ []) x at) ∷ []) ∵
+        split ! $ move ! (2 ∷ []) $ fsplit ! $ fsplit3 ! $ drop ! $ move ! (0 ∷ 1 ∷ 3 ∷ []) $
         -- [obs; the borrow; the token; true; true]
         enter ! C Λ code.function (vptr b o ∷ []) _ $
         alloc1 ! (λ l₀. alloc1 ! (λ l₁. alloc1 ! (λ l₂. alloc1 ! (λ l₃. alloc0 ! $ params1 ! $ pass1 ! (init ! 4 refl (tt, tt)) $ pass0 ! $
-        move ! (8 ∷ 9 ∷ 10 ∷ []) $ opens ! tt (TR.the-row) {h = h} b o (λ vs. spelt ! (TR.the-row) (Is (TR.the-row)) (shows 𝓤 H A (TR.the-row)) (LL.vals TR.the-type TR′.the-laws) (LL.tells TR.the-type TR′.the-laws) fullShare h vs b o $
+        move ! (8 ∷ 9 ∷ 10 ∷ []) $ opens ! tt (TR.the-row) {h = h} b o (λ vs.
+        spelt ! (TR.the-row) (Is (TR.the-row)) (shows 𝓤 H A (TR.the-row)) (LL.vals TR.the-type TR′.the-laws) (LL.tells TR.the-type TR′.the-laws) fullShare h vs b o $
         -- [the recorder's cell; what it owns; the open borrow; obs; auth; room for _3; …; room for _2; …; _1; …; room for _0; …; true; true]
         move ! (1 ∷ []) $ peeks ! TR.the-row (Is TR.the-row) (shows 𝓤 H A TR.the-row) h (vr h ∷ []) (λ is. move ! (1 ∷ 0 ∷ []) $
-        assigns ! (of-opd ! (load ! (from ! (hop ! (look ! 9 refl) (stop !))) (look-raw ! 0 refl))) (from ! (stop !)) (init ! 5 refl (LL.lawful TR.the-type TR′.the-laws 𝓤 H A W .typed h _ is .0)) $
+        assigns ! (of-opd ! (load ! (from ! (hop ! (look ! 9 refl) (stop !))) (look-raw ! 0 refl))) (from ! (stop !))
+        (init ! 5 refl (LL.lawful TR.the-type TR′.the-laws 𝓤 H A W .typed h _ is .0)) $
         owned ! TR.the-row (Is TR.the-row) (LL.makes TR.the-type TR′.the-plain 𝓤 H A) h _ is $
         use1 W (raw (Dropped 𝓤 H A at-mem run .pre to-drop)) goes-drop $
         calls-at ! fm (Dropped 𝓤 H A at-mem run) known to-drop (and-then ! (load ! (from ! (stop !)) (look ! 6 refl)) (no-more !)) (λ v.
-        use1 W (later (some (λ (k : ShotAnswer). (‵ ftrue ⊛ ‵ (TK.the-row .own k (v ∷ []))) ⊛ raw (ensured 𝓤 H A dropped.ended (dropped.clauses 𝓤 H A at-mem run) tt (h, tt) tt k)))) (id⊢ 𝓤 _) $ await ! tt $ pick ! (λ k.
+        use1 W (later (some (λ (k : ShotAnswer). (‵ ftrue ⊛ ‵ (TK.the-row .own k (v ∷ []))) ⊛ raw (ensured 𝓤 H A dropped.ended (dropped.clauses 𝓤 H A at-mem run) tt (h, tt) tt k))))
+        (id⊢ 𝓤 _) $ await ! tt $ pick ! (λ k.
         split ! $ move ! (1 ∷ []) $ use1 W (raw (fact 𝓤 (k ≡ dropAnswer h))) (dropped-of 𝓤 H A at-mem run h k) $ heard ! (k ≡ dropAnswer h) (λ e. split ! $ drop ! $
         peeks ! TK.the-row (Is TK.the-row) (shows 𝓤 H A TK.the-row) k (v ∷ []) (λ isv.
         -- [what the answer owns; the recorder's cell; what it owns; the open borrow; obs; auth; _3; …; room for _2; …; _1; …; room for _0; …; true; true]
@@ -130,7 +135,8 @@ module _ {M : Type 1} (𝓤 : URA M) (H : Heap 𝓤) (A : Atoms 𝓤) (W : Given
         drop ! $ rewrite ! 7 (λ (u : Val). ‵ (fat fullShare TK′.mir l₂ 0 u)) (told k v isv) refl $
         assigns ! (of-opd ! (load ! (from ! (fld ! refl (stop !))) (look-in ! 7 (sub ! 3 refl (whole !))))) (from ! (hop ! (look ! 9 refl) (stop !)))
         (store-raw ! 0 refl (LL.lawful TR.the-type TR′.the-laws 𝓤 H A W .typed (k .recorder) _ (inner k (spelled k v isv)) .0)) $
-        assigns ! (of-opd ! (load ! (from ! (stop !)) (look ! 7 refl))) (from ! (stop !)) (init ! 11 refl (LL.lawful TK.the-type TK′.the-laws 𝓤 H A W .typed k _ (spelled k v isv) .0)) $
+        assigns ! (of-opd ! (load ! (from ! (stop !)) (look ! 7 refl))) (from ! (stop !))
+        (init ! 11 refl (LL.lawful TK.the-type TK′.the-laws 𝓤 H A W .typed k _ (spelled k v isv) .0)) $
         move ! (1 ∷ []) $ drop ! $ owned ! TR.the-row (Is TR.the-row) (LL.makes TR.the-type TR′.the-plain 𝓤 H A) (k .recorder) _ (inner k (spelled k v isv)) $ move ! (1 ∷ 0 ∷ []) $
         closes ! tt TR.the-row (k .recorder) (vr (k .recorder) ∷ []) b o $
         returns ! (look ! 9 refl) $ forget ! 3 refl $ forget ! 5 refl $ forget ! 7 refl $ forget ! 9 refl $
@@ -140,7 +146,8 @@ module _ {M : Type 1} (𝓤 : URA M) (H : Heap 𝓤) (A : Atoms 𝓤) (W : Given
 module _ {M : Type 1} (𝓤 : URA M) (H : Heap 𝓤) (A : Atoms 𝓤) (W : Given 𝓤 H A) (at-mem : Memory → SProp 𝓤) (run : Routine → Fun 𝓤) where
   this-walks : (C : Calls 𝓤 H) (Λ : Loops 𝓤 H) → FmC 𝓤 H (W .laws) C → Triple 𝓤 (C #burst·drop-shot) (Dropped 𝓤 H A at-mem run)
       → Walks 𝓤 H A this.ended stayed (WpFn 𝓤 H C Λ code.function) (this.clauses 𝓤 H A at-mem run)
-  this-walks C Λ fm known = walked 𝓤 H A this.ended stayed (this.clauses 𝓤 H A at-mem run) (WpFn 𝓤 H C Λ code.function) (λ κs. (ptr-vals, tt)) (λ κs. (mut-tells (named 0) (κs .0) TR.the-row, tt))
+  this-walks C Λ fm known = walked 𝓤 H A this.ended stayed (this.clauses 𝓤 H A at-mem run) (WpFn 𝓤 H C Λ code.function) (λ κs. (ptr-vals, tt))
+      (λ κs. (mut-tells (named 0) (κs .0) TR.the-row, tt))
       (λ κs qs bounds a _ _. via 𝓤 _ (fst∗ 𝓤 _ (emp 𝓤)) (walk 𝓤 H A W at-mem run (κs .0) (qs .0) (a .0 .ptr .0) (a .0 .ptr .1) (a .0 .name) (a .0 .now) C Λ fm known))
 
   goes : AllGo 𝓤 H A W 1 (this.signature .params) (this.ended .kept) stayed
