@@ -23,6 +23,10 @@ pub record Identity : Type 0 where
   pub name : Name
   pub siteMark : Bytes
 
+-- from begin's arguments
+abbrev pub identified : (burstNumber : ℕ) (siteMark : Bytes) → Identity
+identified burstNumber siteMark = record { name = record { «burst_number» = burstNumber }; siteMark = siteMark }
+
 -- ---- the pieces
 -- index entry: shot number, zero, record offset, picture length
 unfoldable pub entryBytes : ℕ → ℕ → ℕ → ℕ → Bytes

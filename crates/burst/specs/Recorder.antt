@@ -15,7 +15,7 @@ use Rattle.burst.specs.declared.Edition.{Edition}
 use Rattle.burst.specs.declared.Name.{Name}
 use Rattle.burst.specs.Editions.{written, maxEntries}
 use Rattle.burst.specs.Parts.{keyLength, markLength}
-use Rattle.burst.specs.Layout.{Identity, headerBytes, recordBytes, closingSeal}
+use Rattle.burst.specs.Layout.{Identity, identified, headerBytes, recordBytes, closingSeal}
 use Rattle.burst.specs.Numbers.{usedAfter, totalFrom, beginNumber, keepNumber, dropNumber, closeNumber}
 use Rattle.burst.specs.Index.{entryOf, indexRules, indexBytes}
 
@@ -54,7 +54,7 @@ newRecorder key i used closed = record {
 
 -- what a begin that is turned down returns: a closed recorder, otherwise zero
 unfoldable pub noRecorder : Recorder
-noRecorder = newRecorder (replicate keyLength 0) (record { name = record { «burst_number» = 0 }; siteMark = replicate markLength 0 }) 0 true
+noRecorder = newRecorder (replicate keyLength 0) (identified 0 (replicate markLength 0)) 0 true
 
 module _ (key : Bytes) (i : Identity) (buffer : Bytes) where
   unfoldable pub beginRefusal : ℕ

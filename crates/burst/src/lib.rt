@@ -15,7 +15,7 @@ ghost use Rattle.bytes_le.specs.Bytes.{putBytes};
 ghost use Rattle.burst.specs.Fields.{offsetWidth, entryLength};
 ghost use Rattle.burst.specs.Editions.{Known, numbered, written, maxEntries, maxHeader};
 ghost use Rattle.burst.specs.Parts.{sealLength, nonceOf, sealPart, partAnswer, partOutput, keyLength, markLength};
-ghost use Rattle.burst.specs.Layout.{maxPicture, maxIndex, headerBytes, recordBytes, closingSeal};
+ghost use Rattle.burst.specs.Layout.{identified, maxPicture, maxIndex, headerBytes, recordBytes, closingSeal};
 ghost use Rattle.burst.specs.Numbers.{beginNumber, keepNumber, dropNumber, closeNumber};
 ghost use Rattle.burst.specs.Index.{entryOf, entryRules, indexRules, bytesOfEntry};
 ghost use Rattle.burst.specs.Recorder.{editionOf, nameOf, identityOf, isSound, newRecorder, beginAnswer, beginBuffer, dropAnswer, afterKeep, keepAnswer, keepBuffer, recorderIndex, closeAnswer, closeBuffer};
@@ -341,8 +341,8 @@ fn begin_number(e: Edition, key: usize, site_mark: usize, buffer: usize) -> u32
 
 pub fn begin(key: &[u8], burst_number: u64, site_mark: &[u8], buffer: &mut [u8]) -> Begun
     ensures { λ r. ⌜
-        (r ≡ beginAnswer (now (key .entry)) (record { name = record { «burst_number» = «burst_number» }; siteMark = now («site_mark» .entry) }) (now (buffer .entry))) ×
-        (now (buffer .exit) ≡ beginBuffer (now (key .entry)) (record { name = record { «burst_number» = «burst_number» }; siteMark = now («site_mark» .entry) }) (now (buffer .entry))) ⌝ }
+        (r ≡ beginAnswer (now (key .entry)) (identified «burst_number» (now («site_mark» .entry))) (now (buffer .entry))) ×
+        (now (buffer .exit) ≡ beginBuffer (now (key .entry)) (identified «burst_number» (now («site_mark» .entry))) (now (buffer .entry))) ⌝ }
 {
     let e = edition_written(key.len());
     let number = begin_number(e, key.len(), site_mark.len(), buffer.len());
@@ -669,7 +669,8 @@ fn index_of(r: Recorder) -> [u8; MAX_INDEX]
 
 // Writes header, index and closing seal of a recorder's file, from the header's and the index's bytes.
 fn put_end(e: Edition, r: Recorder, header: &[u8], index: &[u8], buffer: &mut [u8])
-    requires { ⌜ (length (now header) ≤ maxHeader) × (length (now index) ≤ maxIndex) × (length (now header) ≤ r .used) × (r .used + length (now index) + sealLength ≤ length (now buffer)) ⌝ }
+    requires { ⌜ (length (now header) ≤ maxHeader) × (length (now index) ≤ maxIndex) × (length (now header) ≤ r .used)
+        × (r .used + length (now index) + sealLength ≤ length (now buffer)) ⌝ }
     ensures { λ _. ⌜ now (buffer .exit) ≡ putBytes (putBytes (now (buffer .entry)) 0 (now (header .entry))) (r .used)
         (now (index .entry) ++ closingSeal e (r .key) (identityOf r) (now (header .entry)) (now (index .entry))) ⌝ }
 {

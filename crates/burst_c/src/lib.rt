@@ -17,6 +17,7 @@ ghost use Rattle.reader.specs.Reader.{checkMark, recordRefusal, recordOffset, r
 ghost use Rattle.listing.specs.Listing.{listRefusal, listAnswer, listOutput};
 ghost use Rattle.replay.specs.Replay.{listOf, wholeScript, Replayed};
 ghost use Rattle.burst_c.specs.Calls.{checkInfoLength, checkedBytes, fetchInfoLength, fetchedBytes, checkCallRefusal, checkCallInfo, placeOf, fetchCallRefusal, fetchCallOutput, fetchCallInfo};
+ghost use Rattle.burst.specs.Layout.{identified};
 
 // Bytes of what check and fetch put into the info.
 const CHECK_INFO: usize = BURST_NUMBER_WIDTH + MARK_BYTES + 3 * COUNT_WIDTH;
@@ -37,7 +38,7 @@ pub extern "C" fn burst_replay(
     whole: &mut u32,
 ) -> usize
     ensures { λ n. ⌜ Replayed
-        (listOf (now (key .entry)) (record { name = record { «burst_number» = «burst_number» }; siteMark = now («site_mark» .entry) }) (length (now (buffer .entry))) (length (now (answers .entry))) (now (script .entry)))
+        (listOf (now (key .entry)) (identified «burst_number» (now («site_mark» .entry))) (length (now (buffer .entry))) (length (now (answers .entry))) (now (script .entry)))
         (now (answers .entry)) (now (answers .exit)) (now (buffer .entry)) (now (buffer .exit)) n ×
         (now (whole .exit) ≡ cond (wholeScript (length (now (answers .entry))) (now (script .entry))) 1 0) ⌝ }
 {

@@ -27,7 +27,7 @@ use Rattle.reader.specs.declared.Checked.{Checked}
 use Rattle.reader.specs.declared.Verdict.the-variants.{Agree}
 use Rattle.reader.specs.declared.Fetched.{Fetched}
 use Rattle.reader.specs.Front.{editionIn, nameIn, headerIn, takenIn, keptIn, indexOffsetIn, entryAt, entriesAt, positionOf, frontRules}
-use Rattle.reader.specs.Reader.{closingPart, recordParts, sealedIn, agrees, markIn, verdictOn, checkRefusal, checkMark, checkAnswer, recordRefusal, recordOffset, recordBytesIn, notChecked, notFetched, fetchRefusal, fetchAnswer, fetchOutput}
+use Rattle.reader.specs.Reader.{closingPart, recordParts, sealedIn, agrees, markIn, verdictOn, checkRefusal, checkMark, checkAnswer, recordRefusal, recordOffset, recordBytesIn, notChecked, notFetched, fetchRefusal, fetchAnswer, fetchOutput, fetchedAs}
 use Rattle.reader.proofs.Rules.{front-is, front-at}
 use Rattle.reader.proofs.Answers.{check-not, check-zero, check-0, checked-refusal, checked-mark, fetched-refusal, Found, found, record-zero, record-refused, record-done, fetch-0, fetch-not, fetch-refused}
 use Rattle.trace.specs.Agreement.{editionFor}
@@ -180,7 +180,7 @@ module _ (ed : Edition) (known-ed : Known ed) (p : Plain) (valid : Valid (p .sho
       let n : entryAt f (positionOf f place) .length ≡ length (w .picture) = ap (λ (x : Entry). x .length) e in
       let r = fetch-0 (p .key) f place out (found-at place (below xs 1 (ed .header) place w h)) (omega arith) in (
         sym (r .0)
-            ∙ ap₂ (λ (x : Entry) (s : Bytes). let a : Fetched = record { refusal = 0; mark = 0; shot = x .shot; stamp = s; length = x .length } in a) e (y .opens .mark),
+            ∙ ap₂ fetchedAs e (y .opens .mark),
         sym (r .1) ∙ ap (putBytes out 0) (y .opens .body),
       )
 

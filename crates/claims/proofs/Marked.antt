@@ -20,5 +20,8 @@ use Rattle.listing.specs.Listing.{frontLines, headLines, listing, shotLine, sho
 use Rattle.claims.specs.Marked.{MarkedHold}
 
 pub marked-hold : MarkedHold
-unfolding numbered written headerRest restRules frontRulesOf bit number μ rotl stateOf column sealNumber openNumber headerBytes nonceOf entryBytes beginNumber keepNumber dropNumber closeNumber totalOf headerOf indexOf numberOf accepted valueOf afterCall answerOf begun plainOf plainAnswers leAt entryRules indexRules entriesAt frontRules checkRefusal recordRefusal fetchRefusal startNumber stripNumber endNumber decimal frontLines headLines listing shotLine shotLines
+unfolding numbered written headerRest restRules frontRulesOf bit number μ rotl stateOf column sealNumber openNumber headerBytes nonceOf entryBytes
+    beginNumber keepNumber dropNumber closeNumber totalOf headerOf indexOf numberOf accepted valueOf afterCall answerOf begun plainOf plainAnswers
+    leAt entryRules indexRules entriesAt frontRules checkRefusal recordRefusal fetchRefusal startNumber stripNumber endNumber decimal frontLines
+    headLines listing shotLine shotLines
 marked-hold = refl

@@ -18,7 +18,7 @@ use Rattle.icepole.specs.Variants.{sizes}
 use Rattle.icepole.specs.Answers.{sealNumber, openNumber}
 use Rattle.burst.specs.Editions.{edition1}
 use Rattle.burst.specs.Parts.{nonceOf}
-use Rattle.burst.specs.Layout.{closingOffset}
+use Rattle.burst.specs.Layout.{closingOffset, identified}
 use Rattle.burst.specs.Numbers.{beginNumber, keepNumber, dropNumber, closeNumber}
 use Rattle.trace.specs.Plain.{pictures, Plain, byValue, inPlace, keepShot, dropShot, closeBurst, CallList, Answer, usedOf, totalOf, headerOf, indexOf, plainOf, plainAnswers}
 use Rattle.reader.specs.Reader.{checkRefusal, recordRefusal, fetchRefusal}
@@ -43,7 +43,7 @@ xoredIn b frame = stateOf (xorWith (replicate 160 0) (pad b frame))
 abbrev pub list7 : CallList
 list7 = record {
   key = replicate 16 0;
-  identity = record { name = record { «burst_number» = 7 }; siteMark = replicate 16 0 };
+  identity = identified 7 (replicate 16 0);
   bufferLength = 111;
   calls = dropShot byValue ∷ keepShot (replicate 16 0) (replicate 3 0) ∷ dropShot inPlace ∷ closeBurst ∷ [];
 }
@@ -55,7 +55,7 @@ burst7 = plainOf edition1 list7
 abbrev pub list60 : CallList
 list60 = record {
   key = replicate 16 0;
-  identity = record { name = record { «burst_number» = 7 }; siteMark = replicate 16 0 };
+  identity = identified 7 (replicate 16 0);
   bufferLength = 64;
   calls = replicate 61 (dropShot byValue) ++ (closeBurst ∷ dropShot inPlace ∷ []);
 }
@@ -108,7 +108,8 @@ stripRefusals =
     ∷ stripNumber false 67108864 1 1
     ∷ []
 
--- ---- the orders (01, "Turned down, by example"): for each two neighbours of an order a call of which both conditions hold, and whose number is the first one's. So no two can change places
+-- ---- the orders (01, "Turned down, by example")
+-- for each two neighbours of an order a call of which both conditions hold, and whose number is the first one's. So no two can change places
 -- 1 and 2, 2 and 3, 3 and 4, 4 and 5
 abbrev pub sealOrder : List ℕ
 sealOrder =
@@ -208,7 +209,7 @@ marked =
     ∷ (the (totalOf edition1 burst7) is the 111)
     ∷ (answers list7 is ((0 ∷ 0 ∷ 0 ∷ []) ∷ (0 ∷ 0 ∷ 1 ∷ []) ∷ (0 ∷ 0 ∷ 2 ∷ []) ∷ (0 ∷ 0 ∷ 3 ∷ []) ∷ (0 ∷ 0 ∷ 111 ∷ []) ∷ []))
     ∷ ((indexOf edition1 burst7 ∷ []) is ((0x02 ∷ 0x00 ∷ 0x00 ∷ 0x00 ∷ 0x20 ∷ 0x00 ∷ 0x00 ∷ 0x00 ∷ 0x03 ∷ 0x00 ∷ 0x00 ∷ 0x00 ∷ []) ∷ []))
-    ∷ ((nonceOf edition1 (burst7 .identity .name) 2 ∷ []) is ((0x07 ∷ 0x00 ∷ 0x00 ∷ 0x00 ∷ 0x00 ∷ 0x00 ∷ 0x00 ∷ 0x00 ∷ 0x02 ∷ 0x00 ∷ 0x00 ∷ 0x00 ∷ 0x00 ∷ 0x00 ∷ 0x00 ∷ 0x00 ∷ []) ∷ []))
+    ∷ ((nonceOf edition1 (burst7 .identity .name) 2 ∷ []) is ((0x07 ∷ replicate 7 0 ++ (0x02 ∷ replicate 7 0)) ∷ []))
     ∷ (drop 60 (answers list60) is ((0 ∷ 0 ∷ 60 ∷ []) ∷ (9 ∷ 0 ∷ 0 ∷ []) ∷ (0 ∷ 0 ∷ 64 ∷ []) ∷ (8 ∷ 0 ∷ 0 ∷ []) ∷ []))
     ∷ ((refusals ∷ []) is ((1 ∷ 2 ∷ 3 ∷ 4 ∷ 5 ∷ 6 ∷ 7 ∷ 8 ∷ 9 ∷ 10 ∷ 11 ∷ 0 ∷ 11 ∷ 10 ∷ []) ∷ []))
     ∷ (the (checkRefusal (replicate 16 0) (front7 61)) is the 12)

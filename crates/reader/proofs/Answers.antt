@@ -18,12 +18,24 @@ use Rattle.reader.specs.declared.Verdict.{Verdict}
 use Rattle.reader.specs.declared.Verdict.the-variants.{Agree, Differs}
 use Rattle.reader.specs.Verdicts.{verdictNumber, verdictMark}
 use Rattle.reader.specs.Front.{headerIn, keptIn, indexOffsetIn, entryAt, positionOf, frontRules}
-use Rattle.reader.specs.Reader.{closingPart, recordPart, recordParts, agrees, markIn, bodyIn, sealedIn, verdictOn, verdict, notChecked, notFetched, checkRefusal, checkMark, checkAnswer, recordRefusal, locateAnswer, recordOffset, recordBytesIn, fetchRefusal, fetchAnswer, fetchOutput}
+use Rattle.reader.specs.Reader.{closingPart, recordPart, recordParts, agrees, markIn, bodyIn, sealedIn, verdictOn, verdict, notChecked, notFetched, fetchedAs, checkRefusal, checkMark, checkAnswer, recordRefusal, locateAnswer, recordOffset, recordBytesIn, fetchRefusal, fetchAnswer, fetchOutput}
 use Rattle.burst.specs.Parts.{keyLength}
 use Rattle.reader.proofs.Rules.{Front, front, InRange, in-range-at}
 use Rattle.reader.proofs.Parts.{agree, first-agrees, all-agree}
 
 -- ---- check
+-- what an accepted check answers: of the header h, with the site mark
+abbrev checkedAs : Header → Bytes → Checked
+checkedAs h site = record {
+  refusal = 0;
+  mark = 0;
+  «burst_number» = h .«burst_number»;
+  «site_mark» = site;
+  taken = h .taken;
+  kept = h .kept;
+  dropped = h .dropped;
+}
+
 module _ (key f : Bytes) where
   abbrev Records : Verdict
   Records = verdictOn key f (recordParts (keptIn f) (indexOffsetIn f) f)
@@ -70,12 +82,9 @@ module _ (key f : Bytes) where
           unfolding checkRefusal
           check-zero = simp (eq-eqb (length key) keyLength hk, hf, all-records, hr)
 
-          pub check-0 : (h : Header) → h ≡ headerIn f → (site : Bytes) → site ≡ markIn key f (closingPart f)
-              → record { refusal = 0; mark = 0; «burst_number» = h .«burst_number»; «site_mark» = site; taken = h .taken; kept = h .kept; dropped = h .dropped } ≡ checkAnswer key f
+          pub check-0 : (h : Header) → h ≡ headerIn f → (site : Bytes) → site ≡ markIn key f (closingPart f) → checkedAs h site ≡ checkAnswer key f
           unfolding checkAnswer checkMark
-          check-0 h e site s =
-              ap₂ (λ (x : Header) (y : Bytes). let z : Checked = record { refusal = 0; mark = 0; «burst_number» = x .«burst_number»; «site_mark» = y; taken = x .taken; kept = x .kept; dropped = x .dropped } in z) e s
-              ∙ sym (simp check-zero)
+          check-0 h e site s = ap₂ checkedAs e s ∙ sym (simp check-zero)
 
 -- what check answers, field by field
 module _ (key f : Bytes) (c : Checked) (is : c ≡ checkAnswer key f) where
@@ -228,7 +237,7 @@ module _ (key f : Bytes) (place : ℕ) where
       fetch-zero h = decides false (le-ltb (length out) (entryAt f (positionOf f place) .length) h)
 
       pub fetch-0 : entryAt f (positionOf f place) .length ≤ length out
-          → (record { refusal = 0; mark = 0; shot = entryAt f (positionOf f place) .shot; stamp = markIn key f (recordPart f (positionOf f place)); length = entryAt f (positionOf f place) .length } ≡ fetchAnswer key f place out)
+          → (fetchedAs (entryAt f (positionOf f place)) (markIn key f (recordPart f (positionOf f place))) ≡ fetchAnswer key f place out)
           × (putBytes out 0 (bodyIn key f (recordPart f (positionOf f place))) ≡ fetchOutput key f place out)
       unfolding fetchAnswer fetchOutput
       fetch-0 h = (sym (simp (fetch-zero h, mark-0 (w .zero))), sym (simp (fetch-zero h)))

@@ -12,7 +12,17 @@ pub entry-same : {s s′ z z′ o o′ n n′ : ℕ} → s ≡ s′ → z ≡ z�
 entry-same a b c d = cc
 
 abbrev header : ℕ → ℕ → ℕ → ℕ → ℕ → ℕ → ℕ → ℕ → ℕ → Header
-header e t k d b p i c n = record { edition = e; taken = record { 0 = t }; kept = record { 0 = k }; dropped = d; «burst_number» = b; pictures = p; index = i; closing = c; total = n }
+header e t k d b p i c n = record {
+  edition = e;
+  taken = record { 0 = t };
+  kept = record { 0 = k };
+  dropped = d;
+  «burst_number» = b;
+  pictures = p;
+  index = i;
+  closing = c;
+  total = n;
+}
 
 pub header-same : {e e′ t t′ k k′ d d′ b b′ p p′ i i′ c c′ n n′ : ℕ}
     → e ≡ e′ → t ≡ t′ → k ≡ k′ → d ≡ d′ → b ≡ b′ → p ≡ p′ → i ≡ i′ → c ≡ c′ → n ≡ n′ → header e t k d b p i c n ≡ header e′ t′ k′ d′ b′ p′ i′ c′ n′

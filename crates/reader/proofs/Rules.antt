@@ -163,7 +163,18 @@ module _ (f : Bytes) (e : Edition) (h : Header) (is : h ≡ headerIn f) (row : e
   reads w =
       subst (λ (x : Edition). Reads f x h) (sym row)
       (subst (λ (x : Header). Reads f (editionIn f) x) (sym is)
-      (record { known = w .known; least = w .least; edition = w .edition; pictures = w .pictures; most = w .most; counts = w .counts; closing = w .closing; total = w .total; size = w .size; rest = w .rest }))
+      (record {
+        known = w .known;
+        least = w .least;
+        edition = w .edition;
+        pictures = w .pictures;
+        most = w .most;
+        counts = w .counts;
+        closing = w .closing;
+        total = w .total;
+        size = w .size;
+        rest = w .rest;
+      }))
 
   pub reads-is : Reads f e h → indexRules 0 (e .header) (h .taken .0) (h .index) (entriesAt (h .kept .0) (h .index) f) ≡ frontRules f
   reads-is w =

@@ -11,6 +11,7 @@ use Rattle.icepole.specs.Answers.{refusal, _when_, unless}
 use Rattle.burst.specs.Fields.{entryLength}
 use Rattle.burst.specs.Parts.{sealLength, partAgrees, partMark, partBody, partAnswer, keyLength, markLength}
 use Rattle.burst.specs.Layout.{closingOffset}
+use Rattle.burst.specs.declared.Entry.{Entry}
 use Rattle.reader.specs.declared.Checked.{Checked}
 use Rattle.reader.specs.declared.Fetched.{Fetched}
 use Rattle.reader.specs.declared.Located.{Located}
@@ -97,6 +98,10 @@ notChecked num mark = record {
 
 abbrev pub notFetched : ℕ → ℕ → Fetched
 notFetched num mark = record { refusal = num; mark = mark; shot = record { 0 = 0 }; stamp = replicate markLength 0; length = 0 }
+
+-- ---- what an accepted fetch answers: of the entry x, with its stamp
+abbrev pub fetchedAs : Entry → Bytes → Fetched
+fetchedAs x stamp = record { refusal = 0; mark = 0; shot = x .shot; stamp = stamp; length = x .length }
 
 -- ---- check
 module _ (key f : Bytes) where

@@ -42,7 +42,7 @@ ghost use Rattle.burst.specs.Parts.{sealLength, keyLength};
 ghost use Rattle.burst.specs.Layout.{maxPicture};
 ghost use Rattle.burst.specs.Index.{indexRules};
 ghost use Rattle.reader.specs.Front.{headerIn, keptIn, indexOffsetIn, entryAt, entriesAt, editionIn, nameIn, restRules, frontRules};
-ghost use Rattle.reader.specs.Reader.{closingPart, recordPart, recordParts, agrees, answerIn, markIn, bodyIn, verdictOn, notChecked, notFetched, checkMark, checkAnswer, locateAnswer, recordRefusal, recordOffset, recordBytesIn, fetchAnswer, fetchOutput};
+ghost use Rattle.reader.specs.Reader.{closingPart, recordPart, recordParts, agrees, answerIn, markIn, bodyIn, verdictOn, notChecked, notFetched, fetchedAs, checkMark, checkAnswer, locateAnswer, recordRefusal, recordOffset, recordBytesIn, fetchAnswer, fetchOutput};
 ghost use Rattle.reader.specs.Verdicts.{verdictNumber, verdictMark};
 
 // What check answers: a refusal number with its mark, or what the file says.
@@ -240,7 +240,8 @@ pub fn front_ok(f: &[u8]) -> bool
 
 // Whether the tag agrees of the record whose entry stands at a position.
 fn record_agrees(key: &[u8], f: &[u8], e: Edition, name: Name, position: usize) -> bool
-    requires { ⌜ (length (now key) ≡ keyLength) × (e ≡ editionIn (now f)) × (name ≡ nameIn (now f)) × (position + entryLength ≤ length (now f)) × (entryAt (now f) position .length ≤ maxPicture)
+    requires { ⌜ (length (now key) ≡ keyLength) × (e ≡ editionIn (now f)) × (name ≡ nameIn (now f)) × (position + entryLength ≤ length (now f))
+        × (entryAt (now f) position .length ≤ maxPicture)
         × (entryAt (now f) position .offset + (entryAt (now f) position .length + sealLength) ≤ length (now f)) ⌝ }
     ensures { λ b. ⌜ b ≡ agrees (now (key .entry)) (now (f .entry)) (recordPart (now (f .entry)) position) ⌝ }
 {
@@ -270,7 +271,8 @@ fn verify_records(
     kept: Place,
     start: usize,
 ) -> Verdict
-    requires { ⌜ (length (now key) ≡ keyLength) × (frontRules (now f) ≡ true) × (e ≡ editionIn (now f)) × (name ≡ nameIn (now f)) × (kept .0 ≡ keptIn (now f)) × (start ≡ indexOffsetIn (now f)) ⌝ }
+    requires { ⌜ (length (now key) ≡ keyLength) × (frontRules (now f) ≡ true) × (e ≡ editionIn (now f)) × (name ≡ nameIn (now f))
+        × (kept .0 ≡ keptIn (now f)) × (start ≡ indexOffsetIn (now f)) ⌝ }
     ensures { λ v. ⌜ v ≡ verdictOn (now (key .entry)) (now (f .entry)) (recordParts (kept .0) start (now (f .entry))) ⌝ }
 {
     let mut left = kept.0 as usize;
@@ -407,10 +409,11 @@ fn not_fetched(refusal: u32, mark: u32) -> Fetched
 
 // Opens the record of the entry x, which stands at a position of the file.
 fn open_record(key: &[u8], f: &[u8], position: usize, x: Entry, out: &mut [u8]) -> Fetched
-    requires { ⌜ (length (now key) ≡ keyLength) × (editionIn (now f) .header ≤ length (now f)) × (x ≡ entryAt (now f) position) × (agrees (now key) (now f) (recordPart (now f) position) ≡ true)
+    requires { ⌜ (length (now key) ≡ keyLength) × (editionIn (now f) .header ≤ length (now f)) × (x ≡ entryAt (now f) position)
+        × (agrees (now key) (now f) (recordPart (now f) position) ≡ true)
         × (position + entryLength ≤ length (now f)) × (x .offset + (x .length + sealLength) ≤ length (now f)) × (x .length ≤ maxPicture) × (x .length ≤ length (now out)) ⌝ }
     ensures { λ r. ⌜
-        (r ≡ record { refusal = 0; mark = 0; shot = x .shot; stamp = markIn (now (key .entry)) (now (f .entry)) (recordPart (now (f .entry)) position); length = x .length }) ×
+        (r ≡ fetchedAs x (markIn (now (key .entry)) (now (f .entry)) (recordPart (now (f .entry)) position))) ×
         (now (out .exit) ≡ putBytes (now (out .entry)) 0 (bodyIn (now (key .entry)) (now (f .entry)) (recordPart (now (f .entry)) position))) ⌝ }
 {
     let e = edition_in(f);

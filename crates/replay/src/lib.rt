@@ -8,6 +8,7 @@ ghost use lib.ListN.{length, drop};
 ghost use Rattle.bytes_le.specs.Bytes.{putBytes, leAt};
 ghost use Rattle.trace.specs.Trace.{answersFrom, bufferFrom};
 ghost use Rattle.replay.specs.Replay.{firstCall, scriptCalls, scriptRest, answersBytes, stepOf, stepBuffer, listOf, wholeScript, Replayed};
+ghost use Rattle.burst.specs.Layout.{identified};
 
 // The bytes of a script that are calls.
 const DROP: u64 = 0;
@@ -166,7 +167,7 @@ pub fn replay(
     answers: &mut [u8],
 ) -> Performed
     ensures { λ p. ⌜ Replayed
-        (listOf (now (key .entry)) (record { name = record { «burst_number» = «burst_number» }; siteMark = now («site_mark» .entry) }) (length (now (buffer .entry))) (length (now (answers .entry))) (now (script .entry)))
+        (listOf (now (key .entry)) (identified «burst_number» (now («site_mark» .entry))) (length (now (buffer .entry))) (length (now (answers .entry))) (now (script .entry)))
         (now (answers .entry)) (now (answers .exit)) (now (buffer .entry)) (now (buffer .exit)) (p .count) ×
         (p .whole ≡ wholeScript (length (now (answers .entry))) (now (script .entry))) ⌝ }
 {

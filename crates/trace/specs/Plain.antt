@@ -8,7 +8,7 @@ use lib.ListN.{length}
 use Rattle.bytes_le.specs.Bytes.{Bytes}
 use Rattle.burst.specs.declared.Edition.{Edition}
 use Rattle.burst.specs.declared.Name.{Name}
-use Rattle.burst.specs.Layout.{Identity, entryBytes, headerBytes, recordBytes, closingSeal}
+use Rattle.burst.specs.Layout.{Identity, identified, entryBytes, headerBytes, recordBytes, closingSeal}
 use Rattle.burst.specs.Numbers.{usedAfter, totalFrom, beginNumber, keepNumber, dropNumber, closeNumber}
 
 -- ---- a firing of the shutter: a picture with its stamp, or a gap where it was dropped. (01 says "a list of shots"; `Shot` is the number of one)
@@ -58,7 +58,7 @@ newBurst key i = record { key = key; identity = i; shots = []; closed = false }
 
 -- at first it is closed
 abbrev pub noBurst : Plain
-noBurst = record { key = []; identity = record { name = record { «burst_number» = 0 }; siteMark = [] }; shots = []; closed = true }
+noBurst = record { key = []; identity = identified 0 []; shots = []; closed = true }
 
 module _ (e : Edition) where
   abbrev pub usedOf : Plain → ℕ

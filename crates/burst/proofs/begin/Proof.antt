@@ -6,7 +6,7 @@ use native.Mathlib.Omega.{arith}
 use borrow.Author.Needs.{needs}
 use lib.ListN.{length}
 use Rattle.bytes_le.specs.Bytes.{Bytes, putBytes}
-use Rattle.burst.specs.Layout.{Identity}
+use Rattle.burst.specs.Layout.{Identity, identified}
 use Rattle.burst.specs.Recorder.{newRecorder, noRecorder}
 use Rattle.burst.proofs.Puts.{header-zeros, length-zeros}
 use Rattle.burst.proofs.Numbers.{Begins, begins}
@@ -15,7 +15,7 @@ use Rattle.burst.proofs.begin.Statement.{statement}
 use Rattle.burst.proofs.begin.Tie as tie
 
 abbrev identity : tie.Start → Identity
-identity s = record { name = record { «burst_number» = s .args .burst-number }; siteMark = s .args .site-mark .now }
+identity s = identified (s .args .burst-number) (s .args .site-mark .now)
 
 -- what is known once no number stands against the call
 abbrev start : tie.Else1 → tie.Start
@@ -66,7 +66,7 @@ returns-2 c =
     let e = c₁₁ .edition-written .result in
     begin-done (a .key .now) (identity c₁₅) (a .buffer .now) e (c₁₁ .edition-written .ensures .0) (sym (c₁₀ .begin-number .ensures) ∙ c₉ .if1 .left)
     _ (c .new-recorder2 .ensures
-    ∙ ap₂ (λ (k m : Bytes). newRecorder k (record { name = record { «burst_number» = a .burst-number }; siteMark = m }) (e .header) false) (c .before .before .array-of .ensures)
+    ∙ ap₂ (λ (k m : Bytes). newRecorder k (identified (a .burst-number) m) (e .header) false) (c .before .before .array-of .ensures)
     (c .before .array-of2 .ensures))
     _ (c₅ .put-bytes .ensures .1 ∙ ap (putBytes (a .buffer .now) 0) (header-zeros e (c₁₁ .edition-written .ensures .1)))
 

@@ -1,6 +1,6 @@
 -- `reader::fetch` meets its contract.
 -- Assumes nothing.
-use mathlib.Core.Path.{ap, _∙_}
+use mathlib.Core.Path.{ap, ap₂, _∙_}
 use Prim.Native.Nat.{ℕ}
 use native.Mathlib.Omega.{arith}
 use borrow.Author.Needs.{needs}
@@ -8,7 +8,7 @@ use Rattle.bytes_le.specs.Bytes.{putBytes}
 use Rattle.burst.specs.declared.Entry.{Entry}
 use Rattle.reader.specs.declared.Fetched.{Fetched}
 use Rattle.reader.specs.Front.{entryAt, positionOf}
-use Rattle.reader.specs.Reader.{recordPart, agrees, markIn, bodyIn}
+use Rattle.reader.specs.Reader.{recordPart, agrees, markIn, bodyIn, fetchedAs}
 use Rattle.reader.proofs.Answers.{located-refusal, located-mark, located-found, located-position, fetch-refused, fetch-5, fetch-0}
 use Rattle.reader.proofs.fetch.Statement.{statement}
 use Rattle.reader.proofs.fetch.Tie as tie
@@ -79,10 +79,7 @@ returns-3 c =
     let e = c₆ .entry-at .ensures ∙ ap (entryAt f) i in
     let n = ap (λ (x : Entry). x .length) e in
     let p = fetch-0 k f (a .place .0) (a .out .now) w (omega (arith, n, c₄ .if2)) in (
-      c .before .before .open-record .ensures .0
-          ∙ ap (λ (x : Entry). let y : Fetched = record { refusal = 0; mark = 0; shot = x .shot; stamp = markIn k f (recordPart f (c₉ .locate .result .position)); length = x .length } in y) e
-          ∙ ap (λ (j : ℕ). let y : Fetched = record { refusal = 0; mark = 0; shot = entryAt f (positionOf f (a .place .0)) .shot; stamp = markIn k f (recordPart f j); length = entryAt f (positionOf f (a .place .0)) .length } in y) i
-          ∙ p .0,
+      c .before .before .open-record .ensures .0 ∙ ap₂ fetchedAs e (ap (λ (j : ℕ). markIn k f (recordPart f j)) i) ∙ p .0,
       c .before .before .open-record .ensures .1 ∙ ap (λ (j : ℕ). putBytes (a .out .now) 0 (bodyIn k f (recordPart f j))) i ∙ p .1,
     )
 

@@ -12,7 +12,7 @@ use Rattle.burst.specs.Parts.{sealLength}
 use Rattle.burst.proofs.Rows.{numbered-known}
 use Rattle.reader.specs.declared.Fetched.{Fetched}
 use Rattle.reader.specs.Front.{editionNumberIn}
-use Rattle.reader.specs.Reader.{recordPart, sealedIn}
+use Rattle.reader.specs.Reader.{recordPart, sealedIn, fetchedAs}
 use Rattle.reader.proofs.Opens.{lent, mark-told, body-told, record-answer, record-output}
 use Rattle.reader.proofs.open_record.Statement.{statement}
 use Rattle.reader.proofs.open_record.Tie as tie
@@ -46,7 +46,7 @@ returns c =
     let r = c₃ .open-part .ensures .0 ∙ record-answer k f _ (c₁₂ .edition-in .ensures .0) _ (c₁₁ .name-in .ensures) (a .position) x (p .2) _ ea _ (l .sealed) in
     let z : length (sealedIn k f part) ≡ x .length + sealLength = sym (ap (λ (y : Entry). length (take (y .length + sealLength) (drop (y .offset) f))) (p .2))
     ∙ sym (ap length (l .sealed)) ∙ l .sealed-length in (
-      ap (λ (s : Bytes). let y : Fetched = record { refusal = 0; mark = 0; shot = x .shot; stamp = s; length = x .length } in y) (mark-told k f part _ r (p .3) (omega (arith, z))),
+      ap (fetchedAs x) (mark-told k f part _ r (p .3) (omega (arith, z))),
       c₃ .open-part .ensures .1
           ∙ record-output k f _ (c₁₂ .edition-in .ensures .0) _ (c₁₁ .name-in .ensures) (a .position) x (p .2) _ ea _ (l .sealed) (a .out .now)
           ∙ body-told k f part (a .out .now) (p .3),
