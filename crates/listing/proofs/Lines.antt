@@ -72,26 +72,30 @@ module _ (f : Bytes) (left position : ℕ) where
   unfolding shotLines entriesAt
   no-shots = refl
 
-  more-shots : shotLines (entriesAt (suc left) position f) ≡ lineOf (entryAt f position) ++ shotLines (entriesAt left (position + 12) f)
+  -- the lines behind the first
+  abbrev later : Bytes
+  later = shotLines (entriesAt left (position + 12) f)
+
+  more-shots : shotLines (entriesAt (suc left) position f) ≡ lineOf (entryAt f position) ++ later
   unfolding shotLines entriesAt
   more-shots = refl
 
   module _ (e : Entry) (ee : e ≡ entryAt f position) (at i : ℕ) (o o₁ : Bytes) (h : at + 78 * suc left ≤ length o)
       (ei : i ≡ at + length (lineOf e)) (e₁ : o₁ ≡ putBytes o at (lineOf e)) where
-    both : Put o at (lineOf e ++ shotLines (entriesAt left (position + 12) f)) (putBytes o₁ i (shotLines (entriesAt left (position + 12) f))) (i + length (shotLines (entriesAt left (position + 12) f)))
+    both : Put o at (lineOf e ++ later) (putBytes o₁ i later) (i + length later)
     both =
         let s = shots-length left (position + 12) f in
         let l = shot-length (e .shot .0) (e .offset) (e .length) in
-        put-then o o₁ _ (lineOf e) (shotLines (entriesAt left (position + 12) f)) at i _ (omega (arith, s, l)) (record { index = ei; bytes = e₁ })
+        put-then o o₁ _ (lineOf e) later at i _ (omega (arith, s, l)) (record { index = ei; bytes = e₁ })
         (record { index = refl; bytes = refl })
 
-    here : lineOf e ++ shotLines (entriesAt left (position + 12) f) ≡ shotLines (entriesAt (suc left) position f)
-    here = ap (λ (e : Entry). lineOf e ++ shotLines (entriesAt left (position + 12) f)) ee ∙ sym more-shots
+    here : lineOf e ++ later ≡ shotLines (entriesAt (suc left) position f)
+    here = ap (λ (e : Entry). lineOf e ++ later) ee ∙ sym more-shots
 
-    pub shots-bytes : putBytes o₁ i (shotLines (entriesAt left (position + 12) f)) ≡ putBytes o at (shotLines (entriesAt (suc left) position f))
+    pub shots-bytes : putBytes o₁ i later ≡ putBytes o at (shotLines (entriesAt (suc left) position f))
     shots-bytes = both .bytes ∙ ap (putBytes o at) here
 
-    pub shots-index : i + length (shotLines (entriesAt left (position + 12) f)) ≡ at + length (shotLines (entriesAt (suc left) position f))
+    pub shots-index : i + length later ≡ at + length (shotLines (entriesAt (suc left) position f))
     shots-index = both .index ∙ ap (λ (v : Bytes). at + length v) here
 
 -- ---- the text, from the tests

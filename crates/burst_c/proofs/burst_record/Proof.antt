@@ -6,6 +6,7 @@ use native.Mathlib.Omega.{arith}
 use borrow.Author.Needs.{needs}
 use Rattle.burst.specs.declared.Entry.{Entry}
 use Rattle.reader.specs.Front.{entryAt}
+use Rattle.reader.specs.declared.Located.{Located}
 use Rattle.reader.specs.Reader.{locateAnswer}
 use Rattle.reader.proofs.Answers.{located-refusal, located-mark, located-found, located-position, record-done}
 use Rattle.burst_c.proofs.Places.{at-located}
@@ -14,8 +15,10 @@ use Rattle.burst_c.proofs.burst_record.Statement.{statement}
 use Rattle.burst_c.proofs.burst_record.Tie as tie
 
 -- locate's answer for the caller's place
-told : (c : tie.After-locate)
-    → c .locate .result ≡ locateAnswer (c .before .before .before .before .args .key .now) (c .before .before .before .before .args .file .now) (c .before .before .before .before .args .place)
+abbrev located : tie.Start → Located
+located s = locateAnswer (s .args .key .now) (s .args .file .now) (s .args .place)
+
+told : (c : tie.After-locate) → c .locate .result ≡ located (c .before .before .before .before)
 told c =
     let a = c .before .before .before .before .args in
     c .locate .ensures ∙ at-located (a .key .now) (a .file .now) (a .place) _ (c .before .place-of .ensures)

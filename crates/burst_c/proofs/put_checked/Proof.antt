@@ -1,51 +1,57 @@
--- `burst_c::put_checked` meets its contract.
+-- `burst_c::put_checked` meets its contract: each field goes where the one before it ends.
 -- Assumes nothing.
 use mathlib.Core.Path.{_≡_, sym}
+use Prim.Native.Nat.{ℕ, _≤_}
 use native.Mathlib.Omega.{arith}
 use borrow.Author.Needs.{needs}
 use lib.ListN.{length, length-map}
+use Rattle.bytes_le.specs.Bytes.{Bytes}
+use Rattle.burst.specs.Parts.{markLength}
+use Rattle.burst_c.specs.Calls.{checkInfoLength}
 use Rattle.burst_c.proofs.Returned.{check-put}
 use Rattle.burst_c.proofs.put_checked.Statement.{statement}
 use Rattle.burst_c.proofs.put_checked.Tie as tie
 
+-- an array field of a struct by value has its length: what owning the parameter tells
+marked : (s : tie.Start) → length (s .args .c .«site_mark») ≡ markLength
+marked s = simp length-map at (s .good .0 .1 .1 .1 .1 .1 .0 .1 .0 .1)
+
+-- after each field: where the next one goes, and that the info is long enough
+abbrev At : ℕ → ℕ → Bytes → Type 0
+At n i info = (i ≡ n) × (checkInfoLength ≤ length info)
+
+one : (c : tie.After-store-le) → At 8 (c .store-le .result) (c .store-le .last .0)
+one c = (omega (arith, c .store-le .ensures .0), omega (arith, c .store-le .kept .0, c .before .before .before .before .pre))
+
+two : (c : tie.After-put-bytes) → At 24 (c .put-bytes .result) (c .put-bytes .last .0)
+two c =
+    let f = one (c .before .before .before .before .before) in
+    let m = marked (c .before .before .before .before .before .before .before .before .before) in
+    (omega (arith, f, m, c .put-bytes .ensures .0), omega (arith, f, c .put-bytes .kept .0))
+
+three : (c : tie.After-store-le2) → At 26 (c .store-le2 .result) (c .store-le2 .last .0)
+three c = let f = two (c .before .before .before .before .before) in (omega (arith, f, c .store-le2 .ensures .0), omega (arith, f, c .store-le2 .kept .0))
+
+four : (c : tie.After-store-le3) → At 28 (c .store-le3 .result) (c .store-le3 .last .0)
+four c = let f = three (c .before .before .before .before .before) in (omega (arith, f, c .store-le3 .ensures .0), omega (arith, f, c .store-le3 .kept .0))
+
 slice-aggregate-put-bytes : tie.Need-slice-aggregate-put-bytes
-slice-aggregate-put-bytes c =
-    let c₈ = c .before .before .before .before .before .before .before .before in
-    sym (simp length-map at (c₈ .good .0 .1 .1 .1 .1 .1 .0 .1 .0 .1))
+slice-aggregate-put-bytes c = sym (marked (c .before .before .before .before .before .before .before .before))
 
 put-bytes-requires : tie.Need-put-bytes-requires
 put-bytes-requires c κs =
-    let c₄ = c .before .before .before .before in
-    let c₈ = c₄ .before .before .before .before in
-    let s : length (c₈ .args .c .«site_mark») ≡ 16 = simp length-map at (c₈ .good .0 .1 .1 .1 .1 .1 .0 .1 .0 .1) in
-    omega (arith, s, c₄ .store-le .ensures .0, c₄ .store-le .kept .0, c₈ .pre)
+    let f = one (c .before .before .before .before) in
+    let m = marked (c .before .before .before .before .before .before .before .before) in
+    omega (arith, f, m)
 
 store-le-requires-2 : tie.Need-store-le-requires-2
-store-le-requires-2 c κs =
-    let c₄ = c .before .before .before .before in
-    let c₉ = c₄ .before .before .before .before .before in
-    let c₁₃ = c₉ .before .before .before .before in
-    let s : length (c₁₃ .args .c .«site_mark») ≡ 16 = simp length-map at (c₁₃ .good .0 .1 .1 .1 .1 .1 .0 .1 .0 .1) in
-    omega (arith, s, c₉ .store-le .ensures .0, c₉ .store-le .kept .0, c₄ .put-bytes .ensures .0, c₄ .put-bytes .kept .0, c₁₃ .pre)
+store-le-requires-2 c κs = let f = two (c .before .before .before .before) in omega (arith, f)
 
 store-le-requires-3 : tie.Need-store-le-requires-3
-store-le-requires-3 c κs =
-    let c₄ = c .before .before .before .before in
-    let c₉ = c₄ .before .before .before .before .before in
-    let c₁₄ = c₉ .before .before .before .before .before in
-    let c₁₈ = c₁₄ .before .before .before .before in
-    let s : length (c₁₈ .args .c .«site_mark») ≡ 16 = simp length-map at (c₁₈ .good .0 .1 .1 .1 .1 .1 .0 .1 .0 .1) in
-    omega (arith, s, c₁₄ .store-le .ensures .0, c₁₄ .store-le .kept .0, c₉ .put-bytes .ensures .0, c₉ .put-bytes .kept .0, c₄ .store-le2 .ensures .0, c₄ .store-le2 .kept .0, c₁₈ .pre)
+store-le-requires-3 c κs = let f = three (c .before .before .before .before) in omega (arith, f)
 
 store-le-requires-4 : tie.Need-store-le-requires-4
-store-le-requires-4 c κs =
-    let c₄ = c .before .before .before .before in
-    let c₉ = c₄ .before .before .before .before .before in
-    let c₁₄ = c₉ .before .before .before .before .before in
-    let c₁₉ = c₁₄ .before .before .before .before .before in
-    let c₂₃ = c₁₉ .before .before .before .before in
-    let s : length (c₂₃ .args .c .«site_mark») ≡ 16 = simp length-map at (c₂₃ .good .0 .1 .1 .1 .1 .1 .0 .1 .0 .1) in
-    omega (arith, s, c₁₉ .store-le .ensures .0, c₁₉ .store-le .kept .0, c₁₄ .put-bytes .ensures .0, c₁₄ .put-bytes .kept .0, c₉ .store-le2 .ensures .0, c₉ .store-le2 .kept .0, c₄ .store-le3 .ensures .0, c₄ .store-le3 .kept .0, c₂₃ .pre)
+store-le-requires-4 c κs = let f = four (c .before .before .before .before) in omega (arith, f)
 
 returns : tie.Need-returns
 returns c =
@@ -55,8 +61,7 @@ returns c =
     let c₂₂ = c₁₇ .before .before .before .before .before in
     let c₂₆ = c₂₂ .before .before .before .before in
     let a = c₂₆ .args in
-    let s : length (a .c .«site_mark») ≡ 16 = simp length-map at (c₂₆ .good .0 .1 .1 .1 .1 .1 .0 .1 .0 .1) in
-    check-put (a .info .now) _ _ _ _ _ (a .c .«site_mark») _ _ _ _ (a .c .«burst_number») (a .c .taken .0) (a .c .kept .0) (a .c .dropped) (c₂₆ .pre) s
+    check-put (a .info .now) _ _ _ _ _ (a .c .«site_mark») _ _ _ _ (a .c .«burst_number») (a .c .taken .0) (a .c .kept .0) (a .c .dropped) (c₂₆ .pre) (marked c₂₆)
     (c₂₂ .store-le .ensures .1) (c₂₂ .store-le .ensures .0) (c₁₇ .put-bytes .ensures .1) (c₁₇ .put-bytes .ensures .0) (c₁₂ .store-le2 .ensures .1) (c₁₂ .store-le2 .ensures .0)
     (c₇ .store-le3 .ensures .1) (c₇ .store-le3 .ensures .0) (c .before .before .store-le4 .ensures .1)
 

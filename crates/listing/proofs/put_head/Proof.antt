@@ -1,77 +1,66 @@
 -- `listing::put_head` meets its contract: each field touches the one before.
 -- Assumes nothing.
+use Prim.Native.Nat.{ℕ, _≤_}
 use native.Mathlib.Omega.{arith}
 use borrow.Author.Needs.{needs}
+use lib.ListN.{length}
+use Rattle.bytes_le.specs.Bytes.{Bytes}
 use Rattle.listing.specs.Text.{ascii}
 use Rattle.listing.proofs.Puts.{field-length, head-put}
 use Rattle.listing.proofs.put_head.Statement.{statement}
 use Rattle.listing.proofs.put_head.Tie as tie
 
+-- back to the start from behind each field
+abbrev start₁ : tie.After-put-field → tie.Start
+start₁ c = c .before .before .before .before
+
+abbrev start₂ : tie.After-put-field2 → tie.Start
+start₂ c = start₁ (c .before .before .before .before .before)
+
+abbrev start₃ : tie.After-put-field3 → tie.Start
+start₃ c = start₂ (c .before .before .before .before .before)
+
+abbrev start₄ : tie.After-put-field4 → tie.Start
+start₄ c = start₃ (c .before .before .before .before .before)
+
+-- behind a field: the next one stands at most n bytes on, in an output that is long enough
+abbrev At : ℕ → ℕ → Bytes → Type 0
+At n i out = (i ≤ n) × (109 ≤ length out)
+
+one : (c : tie.After-put-field) → At 26 (c .put-field .result) (c .put-field .last .0)
+one c =
+    let l = field-length (ascii "burst ") (start₁ c .args .burst-number) in
+    (omega (arith, l, c .put-field .ensures .0), omega (arith, c .put-field .kept .0, start₁ c .pre))
+
+two : (c : tie.After-put-field2) → At 53 (c .put-field2 .result) (c .put-field2 .last .0)
+two c =
+    let f = one (c .before .before .before .before .before) in
+    let l = field-length (ascii "\ntaken ") (start₂ c .args .taken) in
+    (omega (arith, f, l, c .put-field2 .ensures .0), omega (arith, f, c .put-field2 .kept .0))
+
+three : (c : tie.After-put-field3) → At 79 (c .put-field3 .result) (c .put-field3 .last .0)
+three c =
+    let f = two (c .before .before .before .before .before) in
+    let l = field-length (ascii " kept ") (start₃ c .args .kept) in
+    (omega (arith, f, l, c .put-field3 .ensures .0), omega (arith, f, c .put-field3 .kept .0))
+
+four : (c : tie.After-put-field4) → At 108 (c .put-field4 .result) (c .put-field4 .last .0)
+four c =
+    let f = three (c .before .before .before .before .before) in
+    let l = field-length (ascii " dropped ") (start₄ c .args .dropped) in
+    (omega (arith, f, l, c .put-field4 .ensures .0), omega (arith, f, c .put-field4 .kept .0))
+
 put-field-requires-2 : tie.Need-put-field-requires-2
-put-field-requires-2 c κs =
-    let c₄ = c .before .before .before .before in
-    let c₈ = c₄ .before .before .before .before in
-    omega (arith, c₈ .pre, field-length (ascii "burst ") (c₈ .args .burst-number), c₄ .put-field .ensures .0, c₄ .put-field .kept .0)
+put-field-requires-2 c κs = let f = one (c .before .before .before .before) in omega (arith, f)
 
 put-field-requires-3 : tie.Need-put-field-requires-3
-put-field-requires-3 c κs =
-    let c₄ = c .before .before .before .before in
-    let c₉ = c₄ .before .before .before .before .before in
-    let c₁₃ = c₉ .before .before .before .before in
-    omega (
-      arith,
-      c₁₃ .pre,
-      field-length (ascii "burst ") (c₁₃ .args .burst-number),
-      c₉ .put-field .ensures .0,
-      c₉ .put-field .kept .0,
-      field-length (ascii "\ntaken ") (c₁₃ .args .taken),
-      c₄ .put-field2 .ensures .0,
-      c₄ .put-field2 .kept .0,
-    )
+put-field-requires-3 c κs = let f = two (c .before .before .before .before) in omega (arith, f)
 
 put-field-requires-4 : tie.Need-put-field-requires-4
-put-field-requires-4 c κs =
-    let c₄ = c .before .before .before .before in
-    let c₉ = c₄ .before .before .before .before .before in
-    let c₁₄ = c₉ .before .before .before .before .before in
-    let c₁₈ = c₁₄ .before .before .before .before in
-    omega (
-      arith,
-      c₁₈ .pre,
-      field-length (ascii "burst ") (c₁₈ .args .burst-number),
-      c₁₄ .put-field .ensures .0,
-      c₁₄ .put-field .kept .0,
-      field-length (ascii "\ntaken ") (c₁₈ .args .taken),
-      c₉ .put-field2 .ensures .0,
-      c₉ .put-field2 .kept .0,
-      field-length (ascii " kept ") (c₁₈ .args .kept),
-      c₄ .put-field3 .ensures .0,
-      c₄ .put-field3 .kept .0,
-    )
+put-field-requires-4 c κs = let f = three (c .before .before .before .before) in omega (arith, f)
 
 put-bytes-requires : tie.Need-put-bytes-requires
-put-bytes-requires c κs =
-    let c₄ = c .before .before .before .before in
-    let c₉ = c₄ .before .before .before .before .before in
-    let c₁₄ = c₉ .before .before .before .before .before in
-    let c₁₉ = c₁₄ .before .before .before .before .before in
-    let c₂₃ = c₁₉ .before .before .before .before in
-    omega (
-      arith,
-      c₂₃ .pre,
-      field-length (ascii "burst ") (c₂₃ .args .burst-number),
-      c₁₉ .put-field .ensures .0,
-      c₁₉ .put-field .kept .0,
-      field-length (ascii "\ntaken ") (c₂₃ .args .taken),
-      c₁₄ .put-field2 .ensures .0,
-      c₁₄ .put-field2 .kept .0,
-      field-length (ascii " kept ") (c₂₃ .args .kept),
-      c₉ .put-field3 .ensures .0,
-      c₉ .put-field3 .kept .0,
-      field-length (ascii " dropped ") (c₂₃ .args .dropped),
-      c₄ .put-field4 .ensures .0,
-      c₄ .put-field4 .kept .0,
-    )
+put-bytes-requires c κs = let f = four (c .before .before .before .before) in omega (arith, f)
 
 returns : tie.Need-returns
 returns c =
