@@ -1,11 +1,15 @@
 -- `reader::check` meets its contract.
 -- Assumes nothing.
+use mathlib.Core.Bool.{true}
 use mathlib.Core.Path.{_≡_, sym, ap, ap₂, _∙_}
 use native.Mathlib.Omega.{arith}
 use borrow.Author.Needs.{needs}
 use borrow.Author.Tests.{not-true, not-false}
 use lib.ListN.{length}
+use Rattle.bytes_le.specs.Bytes.{Bytes}
+use Rattle.burst.specs.Parts.{keyLength}
 use Rattle.reader.specs.declared.Header.{Header}
+use Rattle.reader.specs.Front.{frontRules}
 use Rattle.reader.specs.Reader.{closingPart, recordParts, verdictOn, notChecked}
 use Rattle.reader.proofs.Rules.{front}
 use Rattle.reader.proofs.Opens.{tag-differs, tag-stands, mark-told, length-closing-part}
@@ -24,16 +28,21 @@ returns-2 c =
     let c₆ = c .before .before .before .before .before .before in
     c .not-checked2 .ensures ∙ check-12 (c₆ .args .key .now) (c₆ .args .f .now) (omega arith) (sym (c .before .before .front-ok .ensures) ∙ not-true _ (c .before .if2 .taken))
 
+-- the front rules hold once they were tested
+abbrev file : tie.Else2 → Bytes
+file c = c .before .before .before .before .before .args .f .now
+
+fronted : (c : tie.Else2) → frontRules (file c) ≡ true
+fronted c = sym (c .before .front-ok .ensures) ∙ not-false _ (c .if2 .left)
+
 header-in-requires : tie.Need-header-in-requires
-header-in-requires c κs = let w = front _ (sym (c .before .front-ok .ensures) ∙ not-false _ (c .if2 .left)) in omega (arith, w)
+header-in-requires c κs = let w = front _ (fronted c) in omega (arith, w)
 
 edition-in-requires : tie.Need-edition-in-requires
-edition-in-requires c κs = let w = front _ (sym (c .before .before .front-ok .ensures) ∙ not-false _ (c .before .if2 .left)) in omega (arith, w)
+edition-in-requires c κs = let w = front _ (fronted (c .before)) in omega (arith, w)
 
 name-in-requires : tie.Need-name-in-requires
-name-in-requires c κs =
-    let c₃ = c .before .before .before in
-    let w = front _ (sym (c₃ .front-ok .ensures) ∙ not-false _ (c .before .before .if2 .left)) in omega (arith, w)
+name-in-requires c κs = let w = front _ (fronted (c .before .before)) in omega (arith, w)
 
 verify-closing-requires : tie.Need-verify-closing-requires
 verify-closing-requires c κs =
@@ -41,8 +50,7 @@ verify-closing-requires c κs =
     let c₄ = c₃ .before in
     let c₅ = c₄ .before in (
       omega (arith, c₅ .if1),
-      sym (c₄ .front-ok .ensures)
-          ∙ not-false _ (c₃ .if2 .left),
+      fronted c₃,
       c .before .edition-in .ensures .0,
       c .name-in .ensures,
       c .before .before .header-in .ensures,
@@ -56,7 +64,7 @@ returns-3 c =
     let c₉ = c₈ .before in
     let c₁₂ = c₉ .before .before .before in
     c .not-checked3 .ensures
-    ∙ check-closing (c₁₂ .args .key .now) (c₁₂ .args .f .now) (omega (arith, c₉ .if1)) (sym (c₈ .front-ok .ensures) ∙ not-false _ (c₇ .if2 .left))
+    ∙ check-closing (c₁₂ .args .key .now) (c₁₂ .args .f .now) (omega (arith, c₉ .if1)) (fronted c₇)
     (tag-differs _ _ _ _ (c₃ .verify-closing .ensures) (λ z. omega (arith, z, c .before .if3)))
 
 verify-records-requires : tie.Need-verify-records-requires
@@ -69,8 +77,7 @@ verify-records-requires c κs =
     let c₉ = c₈ .before in
     let e = c₆ .header-in .ensures in (
       omega (arith, c₉ .if1),
-      sym (c₈ .front-ok .ensures)
-          ∙ not-false _ (c₇ .if2 .left),
+      fronted c₇,
       c₅ .edition-in .ensures .0,
       c₄ .name-in .ensures,
       ap (λ (x : Header). x .kept .0) e,
@@ -94,7 +101,7 @@ returns-4 c =
     let n = c₃ .verdict-number .ensures in
     c .not-checked4 .ensures
     ∙ ap₂ notChecked n (c .before .verdict-mark .ensures)
-    ∙ check-record key f (omega (arith, c₁₄ .if1)) (sym (c₁₃ .front-ok .ensures) ∙ not-false _ (c₁₂ .if2 .left))
+    ∙ check-record key f (omega (arith, c₁₄ .if1)) (fronted c₁₂)
     (tag-stands _ _ _ _ (c₈ .verify-closing .ensures) (c₆ .if3 .left)) _ v
     (λ z. c .before .before .if4 .taken (n ∙ z))
 
@@ -113,8 +120,8 @@ returns-5 c =
     let key = c₁₈ .args .key .now in
     let f = c₁₈ .args .f .now in
     let e = c₁₂ .header-in .ensures in
-    let hk : length key ≡ 16 = omega (arith, c₁₅ .if1) in
-    let hf = sym (c₁₄ .front-ok .ensures) ∙ not-false _ (c₁₃ .if2 .left) in
+    let hk : length key ≡ keyLength = omega (arith, c₁₅ .if1) in
+    let hf = fronted c₁₃ in
     let v = c₅ .verify-records .ensures ∙ ap (λ (x : Header). verdictOn key f (recordParts (x .kept .0) (x .index) f)) e in
     let hc = tag-stands key f (closingPart f) _ (c₉ .verify-closing .ensures) (c₇ .if3 .left) in
     check-0 key f hk hf hc (sym v ∙ agree _ (sym (c₄ .verdict-number .ensures) ∙ c₃ .if4 .left)) _ e _

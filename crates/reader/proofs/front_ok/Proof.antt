@@ -5,6 +5,7 @@ use mathlib.Core.Path.{_≡_, sym, _∙_}
 use native.Mathlib.Omega.{arith}
 use borrow.Author.Needs.{needs}
 use borrow.Author.Tests.{not-true, not-false}
+use Rattle.bytes_le.specs.Bytes.{Bytes}
 use Rattle.burst.proofs.Rules.{refuted, clash}
 use Rattle.reader.specs.Front.{frontRules}
 use Rattle.reader.proofs.Rules.{Reads, front, reads, reads-is}
@@ -12,8 +13,13 @@ use Rattle.reader.proofs.front_ok.Statement.{statement}
 use Rattle.reader.proofs.front_ok.Tie as tie
 
 -- the rules, where all of them hold
-told : (c : tie.After-edition-in) → frontRules (c .before .before .before .before .args .f .now) ≡ true
-    → Reads (c .before .before .before .before .args .f .now) (c .edition-in .result) (c .before .header-in .result)
+abbrev file : tie.After-edition-in → Bytes
+file c = c .before .before .before .before .args .f .now
+
+abbrev Told : tie.After-edition-in → Type 0
+Told c = Reads (file c) (c .edition-in .result) (c .before .header-in .result)
+
+told : (c : tie.After-edition-in) → frontRules (file c) ≡ true → Told c
 told c t = reads _ _ _ (c .before .header-in .ensures) (c .edition-in .ensures .0) (front _ t)
 
 returns : tie.Need-returns
@@ -72,44 +78,38 @@ rest-ok-requires c κs =
     let c₂₁ = c₁₂ .before .before .before .before .before .before .before .before .before in
     omega (arith, c₂₁ .if2)
 
-index-ok-requires : tie.Need-index-ok-requires
-index-ok-requires c κs =
+-- all rules but those of the index, once they are tested
+abbrev read : tie.Else10 → tie.After-edition-in
+read c = let c₁₂ = c .before .before .before .before .before .before .before .before .before .before .before .before in c₁₂ .before .before .before .before .before .before .before .before .before .before .before .before .before
+
+here : (c : tie.Else10) → Told (read c)
+here c =
     let c₄ = c .before .before .before .before in
-    let c₆ = c₄ .before .before in
-    let c₇ = c₆ .before in
+    let c₇ = c₄ .before .before .before in
     let c₁₀ = c₇ .before .before .before in
     let c₁₄ = c₁₀ .before .before .before .before in
-    let c₂₅ = c₁₄ .before .before .before .before .before .before .before .before .before .before .before in
-    let k = c₂₅ .edition-in .ensures .1 in omega (arith, k, c₁₄ .if5, c₁₀ .if6, c₆ .if7, c₇ .index-length .ensures, c₄ .if8, c .before .before .if9)
+    let c₁₇ = c₁₄ .before .before .before in
+    let c₂₀ = c₁₇ .before .before .before in
+    record {
+      known = read c .edition-in .ensures .1;
+      least = omega (arith, c₂₀ .before .before .before .if2);
+      edition = omega (arith, c₂₀ .if3);
+      pictures = omega (arith, c₁₇ .if4);
+      most = omega (arith, c₁₄ .if5);
+      counts = omega (arith, c₁₀ .if6);
+      closing = omega (arith, c₄ .before .before .if7, c₇ .index-length .ensures);
+      total = omega (arith, c₄ .if8);
+      size = omega (arith, c .before .before .if9);
+      rest = sym (c .before .rest-ok .ensures) ∙ not-false _ (c .if10 .left);
+    }
+
+index-ok-requires : tie.Need-index-ok-requires
+index-ok-requires c κs = let w = here c in omega (arith, w .known, w .most, w .counts, w .closing, w .total, w .size)
 
 returns-11 : tie.Need-returns-11
 returns-11 c =
-    let c₃ = c .before .before .before in
-    let c₅ = c₃ .before .before in
-    let c₇ = c₅ .before .before in
-    let c₈ = c₇ .before in
-    let c₁₁ = c₈ .before .before .before in
-    let c₁₅ = c₁₁ .before .before .before .before in
-    let c₁₈ = c₁₅ .before .before .before in
-    let c₂₁ = c₁₈ .before .before .before in
-    let c₂₄ = c₂₁ .before .before .before in
-    let c₂₆ = c₂₄ .before .before in
-    let c₂₇ = c₂₆ .before in
-    let c₃₀ = c₂₇ .before .before .before in
-    c .index-ok .ensures
-    ∙ reads-is (c₃₀ .args .f .now) (c₂₆ .edition-in .result) (c₂₇ .header-in .result) (c₂₇ .header-in .ensures) (c₂₆ .edition-in .ensures .0)
-    (record {
-      known = c₂₆ .edition-in .ensures .1;
-      least = omega (arith, c₂₄ .if2);
-      edition = omega (arith, c₂₁ .if3);
-      pictures = omega (arith, c₁₈ .if4);
-      most = omega (arith, c₁₅ .if5);
-      counts = omega (arith, c₁₁ .if6);
-      closing = omega (arith, c₇ .if7, c₈ .index-length .ensures);
-      total = omega (arith, c₅ .if8);
-      size = omega (arith, c₃ .if9);
-      rest = sym (c .before .before .rest-ok .ensures) ∙ not-false _ (c .before .if10 .left);
-    })
+    let e = read (c .before) in
+    c .index-ok .ensures ∙ reads-is _ _ _ (e .before .header-in .ensures) (e .edition-in .ensures .0) (here (c .before))
 
 pub front-ok-spec : {M : Type 1} → statement M
 front-ok-spec =
