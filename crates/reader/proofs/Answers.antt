@@ -10,6 +10,7 @@ use lib.Dec.{eqb, leb, ltb}
 use lib.ListN.{length}
 use Rattle.bytes_le.specs.Bytes.{Bytes, putBytes}
 use Rattle.icepole.proofs.Numbers.{passed}
+use Rattle.burst.specs.declared.Entry.{Entry}
 use Rattle.reader.specs.declared.Checked.{Checked}
 use Rattle.reader.specs.declared.Fetched.{Fetched}
 use Rattle.reader.specs.declared.Header.{Header}
@@ -195,6 +196,10 @@ module _ (key f : Bytes) (place : ℕ) where
       pub located-position : l .position ≡ positionOf f place
       unfolding locateAnswer
       located-position = ap (λ (x : Located). x .position) is ∙ simp none-refused
+
+      -- the entry that is read there is the place's
+      pub located-entry : (x : Entry) → x ≡ entryAt f (l .position) → x ≡ entryAt f (positionOf f place)
+      located-entry x e = e ∙ ap (entryAt f) located-position
 
   -- record
   pub record-refused : (recordRefusal key f place ≡ 0 → ⊥) → ([] ≡ recordBytesIn key f place) × (0 ≡ recordOffset key f place)

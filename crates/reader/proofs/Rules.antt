@@ -15,7 +15,7 @@ use Rattle.burst.specs.declared.Edition.{Edition}
 use Rattle.burst.specs.declared.Entry.{Entry}
 use Rattle.burst.specs.Editions.{Known}
 use Rattle.burst.specs.Layout.{maxPicture}
-use Rattle.burst.specs.Numbers.{usedAfter}
+use Rattle.burst.specs.Numbers.{usedAfter, totalFrom}
 use Rattle.burst.specs.Index.{indexRules}
 use Rattle.burst.proofs.Rows.{numbered-known}
 use Rattle.burst.proofs.Rules.{and-true, Obeys, index-end, index-obeys, index-used}
@@ -27,7 +27,7 @@ rulesIn e f = indexRules 0 (e .header) (takenIn f) (indexOffsetIn f) (entriesAt 
 
 pub record FrontOf (e : Edition) (f : Bytes) : Type 0 where
   pub known : Known e
-  pub least : e .header + 12 * 0 + 32 ≤ length f
+  pub least : totalFrom (e .header) 0 ≤ length f
   pub edition : editionNumberIn f ≡ e .number
   pub pictures : pictureOffsetIn f ≡ e .header
   pub most : takenIn f ≤ e .shots
@@ -45,7 +45,7 @@ module _ (e : Edition) (f : Bytes) where
   front-of : Known e → frontRulesOf e f ≡ true → FrontOf e f
   unfolding frontRulesOf
   front-of k h =
-      let h₁ = and-true (leb (e .header + 12 * 0 + 32) (length f)) _ h in
+      let h₁ = and-true (leb (totalFrom (e .header) 0) (length f)) _ h in
       let h₂ = and-true (eqb (editionNumberIn f) (e .number)) _ (h₁ .1) in
       let h₃ = and-true (eqb (pictureOffsetIn f) (e .header)) _ (h₂ .1) in
       let h₄ = and-true (leb (takenIn f) (e .shots)) _ (h₃ .1) in
@@ -69,14 +69,14 @@ module _ (e : Edition) (f : Bytes) where
       }
 
   -- all rules but those of the index: what is left is these
-  pub front-is : e .header + 12 * 0 + 32 ≤ length f → editionNumberIn f ≡ e .number → pictureOffsetIn f ≡ e .header → takenIn f ≤ e .shots → takenIn f ≡ keptIn f + droppedIn f
+  pub front-is : totalFrom (e .header) 0 ≤ length f → editionNumberIn f ≡ e .number → pictureOffsetIn f ≡ e .header → takenIn f ≤ e .shots → takenIn f ≡ keptIn f + droppedIn f
       → closingOffsetIn f ≡ indexOffsetIn f + 12 * keptIn f → totalIn f ≡ closingOffsetIn f + 32 → totalIn f ≡ length f → restRules e f ≡ true
       → rulesIn e f ≡ frontRulesOf e f
   unfolding frontRulesOf
   front-is h₁ h₂ h₃ h₄ h₅ h₆ h₇ h₈ h₉ =
       sym
       (simp (
-        le-leb (e .header + 12 * 0 + 32) (length f) h₁,
+        le-leb (totalFrom (e .header) 0) (length f) h₁,
         eq-eqb (editionNumberIn f) (e .number) h₂,
         eq-eqb (pictureOffsetIn f) (e .header) h₃,
         le-leb (takenIn f) (e .shots) h₄,
@@ -148,7 +148,7 @@ in-range f (suc n) position last offset taken end (suc j) h g =
 -- ---- the same of a header and an edition that were read from the file
 pub record Reads (f : Bytes) (e : Edition) (h : Header) : Type 0 where
   pub known : Known e
-  pub least : e .header + 12 * 0 + 32 ≤ length f
+  pub least : totalFrom (e .header) 0 ≤ length f
   pub edition : h .edition ≡ e .number
   pub pictures : h .pictures ≡ e .header
   pub most : h .taken .0 ≤ e .shots

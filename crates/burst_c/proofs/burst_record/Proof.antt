@@ -5,10 +5,9 @@ use Prim.Native.Nat.{ℕ, _+_}
 use native.Mathlib.Omega.{arith}
 use borrow.Author.Needs.{needs}
 use Rattle.burst.specs.declared.Entry.{Entry}
-use Rattle.reader.specs.Front.{entryAt}
 use Rattle.reader.specs.declared.Located.{Located}
 use Rattle.reader.specs.Reader.{locateAnswer}
-use Rattle.reader.proofs.Answers.{located-refusal, located-mark, located-found, located-position, record-done}
+use Rattle.reader.proofs.Answers.{located-refusal, located-mark, located-found, located-position, located-entry, record-done}
 use Rattle.burst_c.proofs.Places.{at-located}
 use Rattle.burst_c.proofs.Returned.{none-there, record-size}
 use Rattle.burst_c.proofs.burst_record.Statement.{statement}
@@ -40,10 +39,8 @@ entry-at-requires c κs =
 add-size : tie.Need-add-size
 add-size c =
     let c₄ = c .before .before .before .before in
-    let c₈ = c₄ .before .before .before .before in
     let w = located-found _ _ _ _ (told c₄) (c .before .before .if1 .left) in
-    let i = located-position _ _ _ _ (told c₄) (c .before .before .if1 .left) in
-    let n = ap (λ (x : Entry). x .length) (c .before .entry-at .ensures ∙ ap (entryAt (c₈ .args .file .now)) i) in
+    let n = ap (λ (x : Entry). x .length) (located-entry _ _ _ _ (told c₄) (c .before .before .if1 .left) _ (c .before .entry-at .ensures)) in
     omega (arith, w .range, n)
 
 returns-2 : tie.Need-returns-2
@@ -53,7 +50,7 @@ returns-2 c =
     let z = c .before .before .if1 .left in
     let w = located-found _ _ _ _ e z in
     let n = located-refusal _ _ _ _ e in
-    let x = c .before .entry-at .ensures ∙ ap (entryAt (a .file .now)) (located-position _ _ _ _ e z) in
+    let x = located-entry _ _ _ _ e z _ (c .before .entry-at .ensures) in
     let r = record-done (a .key .now) (a .file .now) (a .place) (sym n ∙ z) in (
       sym z ∙ n,
       located-mark _ _ _ _ e,

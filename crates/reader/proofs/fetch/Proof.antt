@@ -6,10 +6,8 @@ use native.Mathlib.Omega.{arith}
 use borrow.Author.Needs.{needs}
 use Rattle.bytes_le.specs.Bytes.{putBytes}
 use Rattle.burst.specs.declared.Entry.{Entry}
-use Rattle.reader.specs.declared.Fetched.{Fetched}
-use Rattle.reader.specs.Front.{entryAt, positionOf}
 use Rattle.reader.specs.Reader.{recordPart, agrees, markIn, bodyIn, fetchedAs}
-use Rattle.reader.proofs.Answers.{located-refusal, located-mark, located-found, located-position, fetch-refused, fetch-5, fetch-0}
+use Rattle.reader.proofs.Answers.{located-refusal, located-mark, located-found, located-position, located-entry, fetch-refused, fetch-5, fetch-0}
 use Rattle.reader.proofs.fetch.Statement.{statement}
 use Rattle.reader.proofs.fetch.Tie as tie
 
@@ -36,7 +34,7 @@ returns-2 c =
     let c₁₀ = c₆ .before .before .before .before in
     let a = c₁₀ .args in
     let w = located-found _ _ _ _ (c₆ .locate .ensures) (c₄ .if1 .left) in
-    let e = c₃ .entry-at .ensures ∙ ap (entryAt (a .f .now)) (located-position _ _ _ _ (c₆ .locate .ensures) (c₄ .if1 .left)) in
+    let e = located-entry _ _ _ _ (c₆ .locate .ensures) (c₄ .if1 .left) _ (c₃ .entry-at .ensures) in
     let n = ap (λ (x : Entry). x .length) e in
     let p = fetch-5 (a .key .now) (a .f .now) (a .place .0) (a .out .now) w (omega (arith, n, c .before .if2)) in
     (c .not-fetched2 .ensures ∙ p .0, p .1)
@@ -50,7 +48,7 @@ open-record-requires c κs =
     let a = c₁₀ .args in
     let w = located-found _ _ _ _ (c₆ .locate .ensures) (c₄ .if1 .left) in
     let i = located-position _ _ _ _ (c₆ .locate .ensures) (c₄ .if1 .left) in
-    let e = c₃ .entry-at .ensures ∙ ap (entryAt (a .f .now)) i in
+    let e = located-entry _ _ _ _ (c₆ .locate .ensures) (c₄ .if1 .left) _ (c₃ .entry-at .ensures) in
     let n = ap (λ (x : Entry). x .length) e in
     let o = ap (λ (x : Entry). x .offset) e in
     let g = w .accepted .front in (
@@ -76,7 +74,7 @@ returns-3 c =
     let f = a .f .now in
     let w = located-found _ _ _ _ (c₉ .locate .ensures) (c₇ .if1 .left) in
     let i = located-position _ _ _ _ (c₉ .locate .ensures) (c₇ .if1 .left) in
-    let e = c₆ .entry-at .ensures ∙ ap (entryAt f) i in
+    let e = located-entry _ _ _ _ (c₉ .locate .ensures) (c₇ .if1 .left) _ (c₆ .entry-at .ensures) in
     let n = ap (λ (x : Entry). x .length) e in
     let p = fetch-0 k f (a .place .0) (a .out .now) w (omega (arith, n, c₄ .if2)) in (
       c .before .before .open-record .ensures .0 ∙ ap₂ fetchedAs e (ap (λ (j : ℕ). markIn k f (recordPart f j)) i) ∙ p .0,

@@ -79,8 +79,11 @@ rest-ok-requires c κs =
     omega (arith, c₂₁ .if2)
 
 -- all rules but those of the index, once they are tested
+abbrev read₅ : tie.Else5 → tie.After-edition-in
+read₅ c = c .before .before .before .before .before .before .before .before .before .before .before
+
 abbrev read : tie.Else10 → tie.After-edition-in
-read c = let c₁₂ = c .before .before .before .before .before .before .before .before .before .before .before .before in c₁₂ .before .before .before .before .before .before .before .before .before .before .before .before .before
+read c = read₅ (c .before .before .before .before .before .before .before .before .before .before .before .before .before .before)
 
 here : (c : tie.Else10) → Told (read c)
 here c =

@@ -7,8 +7,7 @@ use native.Mathlib.Nat.{add-comm, add-zero}
 use borrow.Author.Needs.{needs}
 use lib.ListN.{take, drop}
 use Rattle.burst.specs.declared.Entry.{Entry}
-use Rattle.reader.specs.Front.{entryAt}
-use Rattle.reader.proofs.Answers.{located-refusal, located-mark, located-found, located-position, record-refused, record-done}
+use Rattle.reader.proofs.Answers.{located-refusal, located-mark, located-found, located-position, located-entry, record-refused, record-done}
 use Rattle.reader.proofs.record.Statement.{statement}
 use Rattle.reader.proofs.record.Tie as tie
 
@@ -29,8 +28,7 @@ entry-at-requires c κs =
 part-result-end : tie.Need-part-result-end
 part-result-end c =
     let w = located-found _ _ _ _ (c .before .before .before .before .before .locate .ensures) (c .before .before .before .if1 .left) in
-    let i = located-position _ _ _ _ (c .before .before .before .before .before .locate .ensures) (c .before .before .before .if1 .left) in
-    let e = c .before .before .entry-at .ensures ∙ ap (entryAt (c .before .before .before .before .before .before .before .before .args .f .now)) i in
+    let e = located-entry _ _ _ _ (c .before .before .before .before .before .locate .ensures) (c .before .before .before .if1 .left) _ (c .before .before .entry-at .ensures) in
     let n = ap (λ (x : Entry). x .length) e in
     let o = ap (λ (x : Entry). x .offset) e in
     omega (arith, w .accepted .front, w .range, n, o)
@@ -45,8 +43,7 @@ returns-2 c =
     let f = a .f .now in
     let n = located-refusal _ _ _ _ (c₆ .locate .ensures) in
     let m = located-mark _ _ _ _ (c₆ .locate .ensures) in
-    let i = located-position _ _ _ _ (c₆ .locate .ensures) (c₄ .if1 .left) in
-    let e = c₃ .entry-at .ensures ∙ ap (entryAt f) i in
+    let e = located-entry _ _ _ _ (c₆ .locate .ensures) (c₄ .if1 .left) _ (c₃ .entry-at .ensures) in
     let p = record-done (a .key .now) f (a .place .0) (sym n ∙ c₄ .if1 .left) in
     let x = c₃ .entry-at .result in
     let q : x .offset + (x .length + 32) - x .offset ≡ x .length + 32 = omega arith in (
