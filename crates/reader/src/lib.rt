@@ -104,9 +104,11 @@ fn entries_in(f: &[u8], kept: Place, start: usize) -> [Entry; MAX_ENTRIES]
     let none = burst::no_entry();
     let mut entries = [none; MAX_ENTRIES];
     let mut i: usize = 0;
+    let mut position = start;
     while i < n {
-        let x = entry_at(f, start + ENTRY_LENGTH * i);
+        let x = entry_at(f, position);
         entries[i] = x;
+        position = position + ENTRY_LENGTH;
         i += 1;
     }
     entries
