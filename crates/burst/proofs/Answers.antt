@@ -31,21 +31,21 @@ closedWith num total r = record { refusal = num; mark = 0; total = total; record
 -- the numbers are worked out at a row e that is the call's own
 -- ---- begin
 module _ (key : Bytes) (i : Identity) (b : Bytes) (e : Edition) (own : e ≡ written (length key)) where
-  abbrev Begins : ℕ
-  Begins = beginNumber e (length key) (length (i .siteMark)) (length b)
+  abbrev beginHere : ℕ
+  beginHere = beginNumber e (length key) (length (i .siteMark)) (length b)
 
-  begins-own : Begins ≡ beginRefusal key i b
+  begins-own : beginHere ≡ beginRefusal key i b
   unfolding beginRefusal
   begins-own = ap (λ (x : Edition). beginNumber x (length key) (length (i .siteMark)) (length b)) own
 
-  pub begin-refused : (num : ℕ) → num ≡ Begins → (num ≡ 0 → ⊥) → (r : Recorder) → r ≡ noRecorder
+  pub begin-refused : (num : ℕ) → num ≡ beginHere → (num ≡ 0 → ⊥) → (r : Recorder) → r ≡ noRecorder
       → (begunWith num r ≡ beginAnswer key i b) × (b ≡ beginBuffer key i b)
   unfolding beginAnswer beginBuffer noRecorder
   begin-refused num n h r f =
       let z = sym (n ∙ begins-own) in
       (ap (begunWith num) f ∙ sym (simp (z, ne-eqb num 0 h)), sym (simp (z, ne-eqb num 0 h)))
 
-  pub begin-done : Begins ≡ 0 → (r : Recorder) → r ≡ newRecorder key i (e .header) false → (b′ : Bytes) → b′ ≡ putBytes b 0 (replicate (e .header) 0)
+  pub begin-done : beginHere ≡ 0 → (r : Recorder) → r ≡ newRecorder key i (e .header) false → (b′ : Bytes) → b′ ≡ putBytes b 0 (replicate (e .header) 0)
       → (begunWith 0 r ≡ beginAnswer key i b) × (b′ ≡ beginBuffer key i b)
   unfolding beginAnswer beginBuffer
   begin-done n r f b′ g =
@@ -56,31 +56,31 @@ module _ (key : Bytes) (i : Identity) (b : Bytes) (e : Edition) (own : e ≡ wri
 
 module _ (r : Recorder) (e : Edition) (own : e ≡ editionOf r) where
   -- ---- drop
-  abbrev Drops : ℕ
-  Drops = dropNumber e (isSound e r) (r .taken .0)
+  abbrev dropHere : ℕ
+  dropHere = dropNumber e (isSound e r) (r .taken .0)
 
-  drops-own : Drops ≡ dropRefusal r
+  drops-own : dropHere ≡ dropRefusal r
   unfolding dropRefusal
   drops-own = ap (λ (x : Edition). dropNumber x (isSound x r) (r .taken .0)) own
 
-  pub drop-refused : (num : ℕ) → num ≡ Drops → (num ≡ 0 → ⊥) → shotWith num 0 r ≡ dropAnswer r
+  pub drop-refused : (num : ℕ) → num ≡ dropHere → (num ≡ 0 → ⊥) → shotWith num 0 r ≡ dropAnswer r
   unfolding dropAnswer
   drop-refused num n h = sym (simp (sym (n ∙ drops-own), ne-eqb num 0 h))
 
-  pub drop-done : Drops ≡ 0 → shotWith 0 (r .taken .0 + 1) (afterDrop r) ≡ dropAnswer r
+  pub drop-done : dropHere ≡ 0 → shotWith 0 (r .taken .0 + 1) (afterDrop r) ≡ dropAnswer r
   unfolding dropAnswer
   drop-done n = sym (simp (sym drops-own ∙ n))
 
   -- ---- keep
   module _ (s p b : Bytes) where
-    abbrev Keeps : ℕ
-    Keeps = keepNumber e (isSound e r) (r .taken .0) (r .kept .0) (r .used) (length s) (length p) (length b)
+    abbrev keepHere : ℕ
+    keepHere = keepNumber e (isSound e r) (r .taken .0) (r .kept .0) (r .used) (length s) (length p) (length b)
 
-    keeps-own : Keeps ≡ keepRefusal r s p b
+    keeps-own : keepHere ≡ keepRefusal r s p b
     unfolding keepRefusal
     keeps-own = ap (λ (x : Edition). keepNumber x (isSound x r) (r .taken .0) (r .kept .0) (r .used) (length s) (length p) (length b)) own
 
-    pub keep-refused : (num : ℕ) → num ≡ Keeps → (num ≡ 0 → ⊥) → (shotWith num 0 r ≡ keepAnswer r s p b) × (b ≡ keepBuffer r s p b)
+    pub keep-refused : (num : ℕ) → num ≡ keepHere → (num ≡ 0 → ⊥) → (shotWith num 0 r ≡ keepAnswer r s p b) × (b ≡ keepBuffer r s p b)
     unfolding keepAnswer keepBuffer
     keep-refused num n h =
         let z = sym (n ∙ keeps-own) in (sym (simp (z, ne-eqb num 0 h)), sym (simp (z, ne-eqb num 0 h)))
@@ -88,7 +88,7 @@ module _ (r : Recorder) (e : Edition) (own : e ≡ editionOf r) where
     abbrev recordAt : Edition → Bytes
     recordAt x = recordBytes x (r .key) (nameOf r) (r .taken .0 + 1) (r .used) s p
 
-    pub keep-done : Keeps ≡ 0 → (next : Recorder) → next ≡ afterKeep r (length p) → (b′ : Bytes) → b′ ≡ putBytes b (r .used) (recordAt e)
+    pub keep-done : keepHere ≡ 0 → (next : Recorder) → next ≡ afterKeep r (length p) → (b′ : Bytes) → b′ ≡ putBytes b (r .used) (recordAt e)
         → (shotWith 0 (next .taken .0) next ≡ keepAnswer r s p b) × (b′ ≡ keepBuffer r s p b)
     unfolding keepAnswer keepBuffer afterKeep
     keep-done n next f b′ g =
@@ -105,19 +105,19 @@ module _ (r : Recorder) (e : Edition) (own : e ≡ editionOf r) where
   endAt x = recorderIndex r ++ closingSeal x (r .key) (identityOf r) (headerAt x) (recorderIndex r)
 
   module _ (b : Bytes) where
-    abbrev Closes : ℕ
-    Closes = closeNumber (isSound e r) (r .kept .0) (r .used) (length b)
+    abbrev closeHere : ℕ
+    closeHere = closeNumber (isSound e r) (r .kept .0) (r .used) (length b)
 
-    closes-own : Closes ≡ closeRefusal r b
+    closes-own : closeHere ≡ closeRefusal r b
     unfolding closeRefusal
     closes-own = ap (λ (x : Edition). closeNumber (isSound x r) (r .kept .0) (r .used) (length b)) own
 
-    pub close-refused : (num : ℕ) → num ≡ Closes → (num ≡ 0 → ⊥) → (closedWith num 0 r ≡ closeAnswer r b) × (b ≡ closeBuffer r b)
+    pub close-refused : (num : ℕ) → num ≡ closeHere → (num ≡ 0 → ⊥) → (closedWith num 0 r ≡ closeAnswer r b) × (b ≡ closeBuffer r b)
     unfolding closeAnswer closeBuffer
     close-refused num n h =
         let z = sym (n ∙ closes-own) in (sym (simp (z, ne-eqb num 0 h)), sym (simp (z, ne-eqb num 0 h)))
 
-    pub close-done : Closes ≡ 0 → (b′ : Bytes) → b′ ≡ putBytes (putBytes b 0 (headerAt e)) (r .used) (endAt e)
+    pub close-done : closeHere ≡ 0 → (b′ : Bytes) → b′ ≡ putBytes (putBytes b 0 (headerAt e)) (r .used) (endAt e)
         → (closedWith 0 (totalFrom (r .used) (r .kept .0)) (afterClose r) ≡ closeAnswer r b) × (b′ ≡ closeBuffer r b)
     unfolding closeAnswer closeBuffer recorderHeader recorderSeal
     close-done n b′ g =

@@ -17,18 +17,26 @@ use Rattle.replay.specs.declared.Step.{Step}
 
 -- ---- a script: the calls one after another
 -- 0 is a drop, 1 a close, 2 a keep, and stamp length (1 byte), picture length (4), stamp and picture follow it; no other byte is a call
+-- bytes of a picture's length here, and of each of an answer's two numbers
+abbrev pub numberWidth : ℕ
+numberWidth = 4
+
+-- bytes of a keep before its stamp
+abbrev pub keepFront : ℕ
+keepFront = 2 + numberWidth
+
 abbrev pub stampLength : Bytes → ℕ
 stampLength s = leAt 1 s 1
 
 abbrev pub pictureLength : Bytes → ℕ
-pictureLength s = leAt 4 s 2
+pictureLength s = leAt numberWidth s 2
 
 abbrev pub keepLength : Bytes → ℕ
-keepLength s = 6 + (stampLength s + pictureLength s)
+keepLength s = keepFront + (stampLength s + pictureLength s)
 
 -- the keep that stands first
 abbrev pub keepIn : Bytes → Call
-keepIn s = keepShot (take (stampLength s) (drop 6 s)) (take (pictureLength s) (drop (6 + stampLength s) s))
+keepIn s = keepShot (take (stampLength s) (drop keepFront s)) (take (pictureLength s) (drop (keepFront + stampLength s) s))
 
 -- the first call of a script and how many bytes it takes; none at the script's end, where a keep is cut by it, and at a byte that is no call
 unfoldable pub firstCall : Bytes → Option (Call × ℕ)
@@ -56,9 +64,12 @@ abbrev pub scriptRest : (room : ℕ) → Bytes → Bytes
 scriptRest zero s = s
 scriptRest (suc room) s = leaving (firstCall s) s (λ m. scriptRest room (drop m s))
 
--- ---- answers as bytes: refusal number (4), then shot number or total (4)
+-- ---- answers as bytes: refusal number, then shot number or total
 abbrev pub answerBytes : Answer → Bytes
-answerBytes a = le 4 (a .number) ++ le 4 (a .value)
+answerBytes a = le numberWidth (a .number) ++ le numberWidth (a .value)
+
+abbrev pub answerLength : ℕ
+answerLength = numberWidth + numberWidth
 
 abbrev pub answersBytes : List Answer → Bytes
 answersBytes [] = []
@@ -80,19 +91,19 @@ stepBuffer r b none = b
 stepBuffer r b (some x) = nextBuffer r b (x .0)
 
 -- ---- the whole
--- the list that a script says, where so many bytes are lent for the answers: begin's needs eight, and each call's eight more
+-- the list that a script says, where so many bytes are lent for the answers: begin's answer needs room, and each call's as much more
 abbrev pub listOf : (key : Bytes) (i : Identity) (buffer answers : ℕ) (script : Bytes) → CallList
-listOf key i buffer answers script = record { key = key; identity = i; bufferLength = buffer; calls = scriptCalls (answers / 8 - 1) script }
+listOf key i buffer answers script = record { key = key; identity = i; bufferLength = buffer; calls = scriptCalls (answers / answerLength - 1) script }
 
 -- whether the whole script is performed, where so many bytes are lent for the answers: begin's has room, and nothing is left behind the calls
 abbrev pub wholeScript : (answers : ℕ) (script : Bytes) → Bool
-wholeScript answers script = cond (ltb answers 8) false (eqb (length (scriptRest (answers / 8 - 1) script)) 0)
+wholeScript answers script = cond (ltb answers answerLength) false (eqb (length (scriptRest (answers / answerLength - 1) script)) 0)
 
 -- what is left of the answers a, of the buffer b and of the count n. Without room for begin's answer nothing is done. Otherwise the answers are those of
 -- the plain burst, begin's first, and after an accepted close the front of the buffer is its file
 pub record Replayed (l : CallList) (a a′ b b′ : Bytes) (n : ℕ) : Type 0 where
-  pub nothing : length a < 8 → (n ≡ 0) × (a′ ≡ a) × (b′ ≡ b)
-  pub count : 8 ≤ length a → n ≡ length (plainAnswers (editionFor l) l)
-  pub answers : 8 ≤ length a → a′ ≡ putBytes a 0 (answersBytes (plainAnswers (editionFor l) l))
-  pub buffer : 8 ≤ length a → b′ ≡ runBuffer l b
-  pub file : 8 ≤ length a → Reached (editionFor l) l → take (totalOf (editionFor l) (plainOf (editionFor l) l)) b′ ≡ fileOf (editionFor l) (plainOf (editionFor l) l)
+  pub nothing : length a < answerLength → (n ≡ 0) × (a′ ≡ a) × (b′ ≡ b)
+  pub count : answerLength ≤ length a → n ≡ length (plainAnswers (editionFor l) l)
+  pub answers : answerLength ≤ length a → a′ ≡ putBytes a 0 (answersBytes (plainAnswers (editionFor l) l))
+  pub buffer : answerLength ≤ length a → b′ ≡ runBuffer l b
+  pub file : answerLength ≤ length a → Reached (editionFor l) l → take (totalOf (editionFor l) (plainOf (editionFor l) l)) b′ ≡ fileOf (editionFor l) (plainOf (editionFor l) l)

@@ -7,7 +7,7 @@ ghost use lib.Dec.{eqb};
 ghost use lib.ListN.{length, drop};
 ghost use Rattle.bytes_le.specs.Bytes.{putBytes, leAt};
 ghost use Rattle.trace.specs.Trace.{answersFrom, bufferFrom};
-ghost use Rattle.replay.specs.Replay.{firstCall, scriptCalls, scriptRest, answersBytes, stepOf, stepBuffer, listOf, wholeScript, Replayed};
+ghost use Rattle.replay.specs.Replay.{firstCall, scriptCalls, scriptRest, answersBytes, answerLength, stepOf, stepBuffer, listOf, wholeScript, Replayed};
 ghost use Rattle.burst.specs.Layout.{identified};
 
 // The bytes of a script that are calls.
@@ -16,6 +16,13 @@ const DROP: u64 = 0;
 const CLOSE: u64 = 1;
 
 const KEEP: u64 = 2;
+
+// Bytes of a picture's length in a script, and of each of an answer's two numbers; of a keep before its stamp; and of an answer.
+const NUMBER_WIDTH: usize = 4;
+
+const KEEP_FRONT: usize = 2 + NUMBER_WIDTH;
+
+const ANSWER_LENGTH: usize = NUMBER_WIDTH + NUMBER_WIDTH;
 
 // What one call of a script leaves: whether there was one, where the next stands, its answer and the recorder.
 pub struct Step {
@@ -47,15 +54,15 @@ fn keep_step(r: Recorder, script: &[u8], position: usize, buffer: &mut [u8]) -> 
         (now (buffer .exit) ≡ stepBuffer r (now (buffer .entry)) (firstCall (drop position (now (script .entry))))) ⌝ }
 {
     let left = script.len() - position;
-    if left < 6 {
+    if left < KEEP_FRONT {
         return stopped(r, position);
     }
     let stamp = bytes_le::load_le(script, position + 1, 1) as usize;
-    let picture = bytes_le::load_le(script, position + 2, 4) as usize;
-    if left < 6 + (stamp + picture) {
+    let picture = bytes_le::load_le(script, position + 2, NUMBER_WIDTH) as usize;
+    if left < KEEP_FRONT + (stamp + picture) {
         return stopped(r, position);
     }
-    let first = position + 6;
+    let first = position + KEEP_FRONT;
     let mid = first + stamp;
     let end = mid + picture;
     let k = burst::keep(r, &script[first..mid], &script[mid..end], buffer);
@@ -134,7 +141,7 @@ fn run(
     buffer: &mut [u8],
     answers: &mut [u8],
 ) -> Performed
-    requires { ⌜ 8 * room ≤ length (now answers) ⌝ }
+    requires { ⌜ answerLength * room ≤ length (now answers) ⌝ }
     ensures { λ p. ⌜
         (p ≡ record { count = length (scriptCalls room (now (script .entry))); whole = eqb (length (scriptRest room (now (script .entry)))) 0 }) ×
         (now (buffer .exit) ≡ bufferFrom start (now (buffer .entry)) (scriptCalls room (now (script .entry)))) ×
@@ -148,8 +155,8 @@ fn run(
         if !s.more {
             return ended(i, script, position);
         }
-        let next = bytes_le::store_le(answers, 8 * i, 4, s.refusal as u64);
-        bytes_le::store_le(answers, next, 4, s.value as u64);
+        let next = bytes_le::store_le(answers, ANSWER_LENGTH * i, NUMBER_WIDTH, s.refusal as u64);
+        bytes_le::store_le(answers, next, NUMBER_WIDTH, s.value as u64);
         r = s.recorder;
         position = s.next;
         i += 1;
@@ -157,7 +164,7 @@ fn run(
     ended(i, script, position)
 }
 
-// Performs a begin and then a script, and writes the answers, eight bytes each.
+// Performs a begin and then a script, and writes the answers one behind the other.
 pub fn replay(
     key: &[u8],
     burst_number: u64,
@@ -171,18 +178,18 @@ pub fn replay(
         (now (answers .entry)) (now (answers .exit)) (now (buffer .entry)) (now (buffer .exit)) (p .count) ×
         (p .whole ≡ wholeScript (length (now (answers .entry))) (now (script .entry))) ⌝ }
 {
-    if answers.len() < 8 {
+    if answers.len() < ANSWER_LENGTH {
         return Performed {
             count: 0,
             whole: false,
         };
     }
-    let room = answers.len() / 8 - 1;
+    let room = answers.len() / ANSWER_LENGTH - 1;
     let b = burst::begin(key, burst_number, site_mark, buffer);
-    let next = bytes_le::store_le(answers, 0, 4, b.refusal as u64);
-    bytes_le::store_le(answers, next, 4, 0);
+    let next = bytes_le::store_le(answers, 0, NUMBER_WIDTH, b.refusal as u64);
+    bytes_le::store_le(answers, next, NUMBER_WIDTH, 0);
     let r = b.recorder;
-    let p = run(r, script, room, buffer, &mut answers[8..]);
+    let p = run(r, script, room, buffer, &mut answers[ANSWER_LENGTH..]);
     let count = 1 + p.count;
     Performed {
         count,
