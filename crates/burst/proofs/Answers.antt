@@ -17,7 +17,7 @@ use Rattle.burst.specs.Editions.{written}
 use Rattle.burst.specs.Layout.{Identity, headerBytes, recordBytes, closingSeal}
 use Rattle.burst.specs.Numbers.{usedAfter, totalFrom, beginNumber, keepNumber, dropNumber, closeNumber}
 use Rattle.burst.specs.Index.{entryOf}
-use Rattle.burst.specs.Recorder.{editionOf, nameOf, identityOf, isSound, newRecorder, noRecorder, beginRefusal, beginAnswer, beginBuffer, dropRefusal, afterDrop, dropAnswer, keepRefusal, afterKeep, keepAnswer, keepBuffer, closeRefusal, afterClose, closeAnswer, closeBuffer, recorderHeader, recorderIndex, recorderSeal}
+use Rattle.burst.specs.Recorder.{editionOf, nameOf, identityOf, isSound, changed, newRecorder, noRecorder, beginRefusal, beginAnswer, beginBuffer, dropRefusal, afterDrop, dropAnswer, keepRefusal, afterKeep, keepAnswer, keepBuffer, closeRefusal, afterClose, closeAnswer, closeBuffer, recorderHeader, recorderIndex, recorderSeal}
 
 abbrev begunWith : ℕ → Recorder → Begun
 begunWith num r = record { refusal = num; mark = 0; recorder = r }
@@ -128,16 +128,7 @@ module _ (r : Recorder) (e : Edition) (own : e ≡ editionOf r) where
 
 -- ---- the recorder after a picture, built field by field with the entry e
 abbrev withEntry : Recorder → ℕ → Entry → Recorder
-withEntry r n e = record {
-  key = r .key;
-  «burst_number» = r .«burst_number»;
-  «site_mark» = r .«site_mark»;
-  taken = e .shot;
-  kept = record { 0 = r .kept .0 + 1 };
-  used = usedAfter (r .used) n;
-  entries = set (r .entries) (r .kept .0) e;
-  closed = r .closed;
-}
+withEntry r n e = changed r (e .shot) (record { 0 = r .kept .0 + 1 }) (usedAfter (r .used) n) (set (r .entries) (r .kept .0) e) (r .closed)
 
 pub kept-with : (r : Recorder) (n : ℕ) (e : Entry) → e ≡ entryOf (r .taken .0 + 1) (r .used) n → withEntry r n e ≡ afterKeep r n
 unfolding afterKeep

@@ -1,13 +1,16 @@
 -- The recorder's calls (01, "Recorder"): what each answers and leaves in the buffer, for good and bad calls.
 -- Assumes nothing.
 use mathlib.Core.Bool.{Bool, true, false, cond, not, _&&_}
-use mathlib.Core.List.{_++_}
+use mathlib.Core.List.{List, _++_}
 use Prim.Native.Nat.{ℕ, _+_, _-_}
 use lib.Dec.{eqb, leb}
 use lib.ListN.{length, take, set, replicate}
 use Rattle.bytes_le.specs.Bytes.{Bytes, putBytes}
 use Rattle.icepole.specs.Answers.{unless}
+use Rattle.burst.specs.declared.Entry.{Entry}
+use Rattle.burst.specs.declared.Place.{Place}
 use Rattle.burst.specs.declared.Recorder.{Recorder}
+use Rattle.burst.specs.declared.Shot.{Shot}
 use Rattle.burst.specs.declared.Begun.{Begun}
 use Rattle.burst.specs.declared.ShotAnswer.{ShotAnswer}
 use Rattle.burst.specs.declared.Closed.{Closed}
@@ -37,6 +40,19 @@ isSound e r =
     && (leb (r .taken .0) (e .shots)
     && (leb (r .kept .0) (r .taken .0)
     && indexRules 0 (e .header) (r .taken .0) (r .used) (take (r .kept .0) (r .entries))))
+
+-- with other counts, bytes used and entries, open or closed; what begin was given stays
+abbrev pub changed : Recorder → (taken : Shot) (kept : Place) (used : ℕ) (entries : List Entry) (closed : Bool) → Recorder
+changed r taken kept used entries closed = record {
+  key = r .key;
+  «burst_number» = r .«burst_number»;
+  «site_mark» = r .«site_mark»;
+  taken = taken;
+  kept = kept;
+  used = used;
+  entries = entries;
+  closed = closed;
+}
 
 -- ---- begin
 -- a recorder without shots
@@ -82,16 +98,7 @@ shotAnswer num was is = record {
 }
 
 unfoldable pub afterDrop : Recorder → Recorder
-afterDrop r = record {
-  key = r .key;
-  «burst_number» = r .«burst_number»;
-  «site_mark» = r .«site_mark»;
-  taken = record { 0 = r .taken .0 + 1 };
-  kept = r .kept;
-  used = r .used;
-  entries = r .entries;
-  closed = r .closed;
-}
+afterDrop r = changed r (record { 0 = r .taken .0 + 1 }) (r .kept) (r .used) (r .entries) (r .closed)
 
 unfoldable pub dropRefusal : Recorder → ℕ
 dropRefusal r = dropNumber (editionOf r) (isSound (editionOf r) r) (r .taken .0)
@@ -101,16 +108,9 @@ dropAnswer r = shotAnswer (dropRefusal r) r (afterDrop r)
 
 -- one entry at place kept, for a picture of so many bytes
 unfoldable pub afterKeep : Recorder → ℕ → Recorder
-afterKeep r count = record {
-  key = r .key;
-  «burst_number» = r .«burst_number»;
-  «site_mark» = r .«site_mark»;
-  taken = record { 0 = r .taken .0 + 1 };
-  kept = record { 0 = r .kept .0 + 1 };
-  used = usedAfter (r .used) count;
-  entries = set (r .entries) (r .kept .0) (entryOf (r .taken .0 + 1) (r .used) count);
-  closed = r .closed;
-}
+afterKeep r count =
+    changed r (record { 0 = r .taken .0 + 1 }) (record { 0 = r .kept .0 + 1 }) (usedAfter (r .used) count)
+    (set (r .entries) (r .kept .0) (entryOf (r .taken .0 + 1) (r .used) count)) (r .closed)
 
 module _ (r : Recorder) (stamp picture buffer : Bytes) where
   unfoldable pub keepRefusal : ℕ
@@ -126,16 +126,7 @@ module _ (r : Recorder) (stamp picture buffer : Bytes) where
 
 -- ---- close
 unfoldable pub afterClose : Recorder → Recorder
-afterClose r = record {
-  key = r .key;
-  «burst_number» = r .«burst_number»;
-  «site_mark» = r .«site_mark»;
-  taken = r .taken;
-  kept = r .kept;
-  used = r .used;
-  entries = r .entries;
-  closed = true;
-}
+afterClose r = changed r (r .taken) (r .kept) (r .used) (r .entries) true
 
 unfoldable pub recorderHeader : Recorder → Bytes
 recorderHeader r = headerBytes (editionOf r) (nameOf r) (r .taken .0) (r .kept .0) (r .taken .0 - r .kept .0) (r .used)
