@@ -4,6 +4,7 @@
 //! proved code is tested against it.
 
 pub mod burst;
+pub mod page;
 pub mod permutation;
 pub mod random;
 pub mod sealing;

@@ -1,38 +1,59 @@
-//! The worked file and the vectors of docs/FORMAT.md are what the documents say.
+//! What docs/FORMAT.md shows is what the documents say: its worked file, what
+//! is read from that and from damaged copies, its listings, its vectors, its
+//! tables of the permutation, and the order of its front rules.
 
+use std::collections::BTreeSet;
+
+use reference::burst::layout::{
+    nonce, ENTRY_BYTES, HEADER_BYTES, LEAST_FILE_BYTES, LONGEST_PICTURE, MOST_SHOTS, SEAL_BYTES,
+};
+use reference::burst::lister::{list, LONGEST_LISTED};
 use reference::burst::plain::{run, Call};
-use reference::burst::reader::{check, fetch};
-use reference::sealing::{seal, Variant};
-
-/// The bytes of the page's fenced block of that name: hex digits, spaces and
-/// line ends; what follows a semicolon is a comment.
-fn block(name: &str) -> Vec<u8> {
-    let page = include_str!("../../../docs/FORMAT.md");
-    let start = format!("```hex {name}\n");
-    let from = page
-        .find(&start)
-        .unwrap_or_else(|| panic!("no block {name}"))
-        + start.len();
-    let text = &page[from..from + page[from..].find("```").unwrap()];
-    let digits: Vec<char> = text
-        .lines()
-        .flat_map(|line| line.split(';').next().unwrap().chars())
-        .filter(|c| !c.is_whitespace())
-        .collect();
-    digits
-        .chunks(2)
-        .map(|pair| u8::from_str_radix(&String::from_iter(pair), 16).unwrap())
-        .collect()
-}
+use reference::burst::reader::{check, fetch, front, record, Checked, Fetched, RecordPart};
+use reference::burst::Refusal;
+use reference::page::{self, damaged_copies, worked_file, Damaged};
+use reference::permutation::{
+    bits, words, State, OFFSETS, ROUND_CONSTANTS, STARTING_WORDS, ZERO_STATE,
+};
+use reference::random::SplitMix64;
+use reference::sealing::{open, seal, Variant};
 
 fn counting(from: u8, length: u8) -> Vec<u8> {
     (0..length).map(|i| from + i).collect()
 }
 
+fn key() -> Vec<u8> {
+    counting(0x00, 16)
+}
+
+/// Every block of the page has a test below.
+#[test]
+fn no_other_blocks() {
+    let held = [
+        "hex file",
+        "hex empty",
+        "hex three bytes",
+        "hex 130 bytes",
+        "words starting words",
+        "words constants",
+        "words P6 of zero",
+        "numbers offsets",
+        "text listing",
+        "text too long",
+        "text broken",
+    ];
+    let named = page::names();
+    assert_eq!(named.len(), held.len());
+    let named: BTreeSet<&str> = named.iter().map(|name| &name[..]).collect();
+    assert_eq!(named, BTreeSet::from(held));
+}
+
+// ---- the worked file
+
 fn calls() -> Vec<Call> {
     vec![
         Call::Begin {
-            key: counting(0x00, 16),
+            key: key(),
             burst_number: 7,
             site_mark: counting(0x10, 16),
         },
@@ -47,32 +68,310 @@ fn calls() -> Vec<Call> {
 }
 
 #[test]
-fn worked_file() {
-    assert_eq!(run(&calls(), 111).file, Some(block("file")));
+fn the_worked_file() {
+    assert_eq!(run(&calls(), 111).file, Some(worked_file()));
 }
 
 #[test]
 fn worked_file_is_read() {
-    let file = block("file");
-    let key = counting(0x00, 16);
-    let checked = check(&key, &file).expect("accepted");
-    assert_eq!((checked.taken, checked.kept, checked.dropped), (3, 1, 2));
-    let fetched = fetch(&key, &file, 0, 3).expect("fetched");
-    assert_eq!(fetched.picture, b"fox");
+    let file = worked_file();
+    let checked = Checked {
+        burst_number: 7,
+        site_mark: counting(0x10, 16)[..].try_into().unwrap(),
+        taken: 3,
+        kept: 1,
+        dropped: 2,
+    };
+    assert_eq!(check(&key(), &file), Ok(checked));
+    let fetched = Fetched {
+        picture: b"fox".to_vec(),
+        stamp: counting(0x20, 16)[..].try_into().unwrap(),
+        shot: 2,
+        length: 3,
+    };
+    for room in [3, 4, 1_000] {
+        assert_eq!(fetch(&key(), &file, 0, room), Ok(fetched.clone()));
+    }
+    assert_eq!(fetch(&key(), &file, 0, 2), Err(Refusal::unmarked(5)));
+    assert_eq!(fetch(&key(), &file, 1, 3), Err(Refusal::unmarked(13)));
+    let part = |number, offset, length| RecordPart {
+        number,
+        mark: 0,
+        offset,
+        length,
+    };
+    assert_eq!(record(&key(), &file, 0), part(0, 32, 35));
+    assert_eq!(record(&key(), &file, 1), part(13, 0, 0));
+}
+
+/// The parts open alone, under the nonces and associated data that the page
+/// has in its text.
+#[test]
+fn worked_parts() {
+    let file = worked_file();
+    for (shot, ad, sealed, secret, message) in [
+        (
+            2,
+            &file[67..79],
+            &file[32..67],
+            counting(0x20, 16),
+            &b"fox"[..],
+        ),
+        (
+            0,
+            &[&file[..32], &file[67..79]].concat(),
+            &file[79..],
+            counting(0x10, 16),
+            &[],
+        ),
+    ] {
+        let nonce = nonce(7, shot);
+        assert!(page::has_bytes(&nonce), "nonce of {shot}");
+        let variant = Variant::Icepole128;
+        let opened = open(variant, &key(), &nonce, ad, &[], sealed, 3, 24);
+        assert_eq!(opened, Ok((message.to_vec(), secret)), "{shot}");
+    }
+    assert!(page::has_bytes(&file[67..79]), "the index entry");
+}
+
+// ---- damaged copies
+
+fn refusal_of(file: &[u8]) -> (u32, u32) {
+    let refused = check(&key(), file).expect_err("refused");
+    (refused.number, refused.mark)
+}
+
+#[test]
+fn every_damaged_copy() {
+    let copies = damaged_copies();
+    assert_eq!(copies.len(), 13);
+    for copy in copies {
+        let Damaged { number, mark, .. } = copy;
+        let file = copy.file();
+        assert_eq!(refusal_of(&file), (number, mark), "{copy:?}");
+        for place in [0, 1] {
+            let refused = Err(Refusal { number, mark });
+            assert_eq!(fetch(&key(), &file, place, 2), refused, "{copy:?}");
+            let part = record(&key(), &file, place);
+            assert_eq!((part.number, part.mark, part.length), (number, mark, 0));
+        }
+        assert_eq!(list(&file).lines().next(), Some(&copy.line[..]), "{copy:?}");
+    }
+}
+
+#[test]
+fn damage_beside_the_table() {
+    let mut two = worked_file();
+    (two[48], two[110]) = (two[48] ^ 1, two[110] ^ 1);
+    assert_eq!(refusal_of(&two), (7, 0));
+    assert_eq!(refusal_of(&worked_file()[..110]), (12, 0));
+    assert_eq!(refusal_of(&[worked_file(), vec![0]].concat()), (12, 0));
+    let other_key = check(&counting(0x01, 16), &worked_file());
+    assert_eq!(other_key, Err(Refusal { number: 7, mark: 0 }));
+}
+
+// ---- listings
+
+#[test]
+fn listings() {
+    let listing = page::text("listing");
+    assert_eq!((list(&worked_file()), listing.len()), (listing, 55));
+    for length in [0, 63, 64, LONGEST_LISTED] {
+        assert_eq!(list(&vec![0; length]), page::text("broken"), "{length}");
+    }
+    assert_eq!(LONGEST_LISTED, 65_536);
+    let mut long = worked_file();
+    long.resize(LONGEST_LISTED + 1, 0);
+    assert_eq!(list(&long), page::text("too long"));
+}
+
+// ---- limits
+
+#[test]
+fn limits() {
+    let shortest = HEADER_BYTES + SEAL_BYTES;
+    assert_eq!((shortest, LEAST_FILE_BYTES), (64, 64));
+    let longest = shortest + MOST_SHOTS * (LONGEST_PICTURE + SEAL_BYTES + ENTRY_BYTES);
+    assert_eq!(longest, 62_917_264);
+    assert!(page::says(
+        "| 64: no picture kept | 62,917,264: 60 pictures of 1,048,576 |"
+    ));
+}
+
+// ---- the front rules
+
+/// The rules as the page has them, in its order. A byte that is not there
+/// would panic.
+fn rules_of_the_page(file: &[u8]) -> bool {
+    if file.len() < 64 {
+        return false;
+    }
+    let number = |at: usize, length: usize| {
+        let bytes = file[at..at + length].iter().rev();
+        bytes.fold(0, |sum: u64, byte| sum << 8 | u64::from(*byte))
+    };
+    let [edition, taken, kept, dropped] = [0, 2, 4, 6].map(|at| number(at, 2));
+    let [pictures, index, closing, total] = [16, 20, 24, 28].map(|at| number(at, 4));
+    if edition != 1 || pictures != 32 {
+        return false;
+    }
+    if taken > 60 || taken != kept + dropped {
+        return false;
+    }
+    if closing != index + 12 * kept {
+        return false;
+    }
+    if total != closing + 32 || total != file.len() as u64 {
+        return false;
+    }
+    let at = |place: u64, offset: u64| (index + 12 * place + offset) as usize;
+    let shots: Vec<u64> = (0..kept).map(|place| number(at(place, 0), 2)).collect();
+    let zeros = (0..kept).all(|place| number(at(place, 2), 2) == 0);
+    let offsets = (0..kept).map(|place| number(at(place, 4), 4));
+    let lengths: Vec<u64> = (0..kept).map(|place| number(at(place, 8), 4)).collect();
+    if !shots.windows(2).all(|two| two[0] < two[1])
+        || !shots.iter().all(|shot| (1..=taken).contains(shot))
+    {
+        return false;
+    }
+    if !zeros
+        || !lengths
+            .iter()
+            .all(|length| (1..=1_048_576).contains(length))
+    {
+        return false;
+    }
+    let mut end = 32;
+    for (offset, length) in offsets.zip(&lengths) {
+        if offset != end {
+            return false;
+        }
+        end += length + 32;
+    }
+    end == index
+}
+
+fn check_rules(file: &[u8], what: &str) -> bool {
+    let obeyed = rules_of_the_page(file);
+    assert_eq!(front(file).is_ok(), obeyed, "{what}");
+    obeyed
+}
+
+/// A file whose shots have these lengths, 0 for a dropped one, with zeros for
+/// all that is sealed.
+fn unsealed(lengths: &[usize]) -> Vec<u8> {
+    let (mut index, mut end) = (Vec::new(), 32);
+    for (shot, length) in (1u16..).zip(lengths).filter(|(_, length)| **length > 0) {
+        index.extend(shot.to_le_bytes());
+        index.extend([0; 2]);
+        index.extend((end as u32).to_le_bytes());
+        index.extend((*length as u32).to_le_bytes());
+        end += length + 32;
+    }
+    let (taken, kept) = (lengths.len(), index.len() / 12);
+    let mut file = Vec::new();
+    for count in [1, taken, kept, taken - kept] {
+        file.extend((count as u16).to_le_bytes());
+    }
+    file.extend(7u64.to_le_bytes());
+    let closing = end + index.len();
+    for offset in [32, end, closing, closing + 32] {
+        file.extend((offset as u32).to_le_bytes());
+    }
+    file.resize(end, 0);
+    file.extend(index);
+    file.resize(closing + 32, 0);
+    file
+}
+
+/// Every length up to a few bytes more, and every value of every byte of
+/// header and index.
+#[test]
+fn front_rules_byte_by_byte() {
+    for (lengths, still_right) in [
+        (&[][..], 0),
+        (&[0, 3, 0], 2),
+        (&[5, 0, 7], 2),
+        (&[0, 5, 0, 7, 1, 0, 0, 0, 0], 2 + 1 + 4),
+    ] {
+        let mut file = unsealed(lengths);
+        assert!(check_rules(&file, "whole"));
+        for length in 0..file.len() {
+            assert!(!check_rules(&file[..length], "cut"));
+        }
+        assert!(!check_rules(&[&file[..], &[0; 3]].concat(), "longer"));
+        let kept = lengths.iter().filter(|length| **length > 0).count();
+        let closing = file.len() - SEAL_BYTES;
+        let index = closing - ENTRY_BYTES * kept;
+        let mut obeyed = 0;
+        for at in (0..8).chain(16..32).chain(index..closing) {
+            let byte = file[at];
+            for value in (0..=255).filter(|value| *value != byte) {
+                file[at] = value;
+                obeyed += usize::from(check_rules(&file, &format!("{at} {value}")));
+            }
+            file[at] = byte;
+        }
+        assert_eq!(obeyed, still_right, "{lengths:?}");
+    }
+}
+
+/// Fields changed at random, some to where a sum would wrap, in files that may
+/// be cut.
+#[test]
+fn front_rules_at_random() {
+    let mut generator = SplitMix64::new(12);
+    let mut obeyed = 0;
+    for case in 0..200_000 {
+        // So every field of 4 bytes stands at a multiple of 4.
+        let count = generator.below(5);
+        let lengths: Vec<usize> = (0..count).map(|_| 4 * generator.below(4)).collect();
+        let mut file = unsealed(&lengths);
+        for _ in 0..generator.below(4) {
+            let at = generator.below(file.len() / 4) * 4;
+            let word: [u8; 4] = file[at..at + 4].try_into().unwrap();
+            let steps = [1, 12, 32, 1 << 16, 1 << 31, 0u32.wrapping_sub(12), u32::MAX];
+            let step = steps[generator.below(steps.len())];
+            let changed = u32::from_le_bytes(word).wrapping_add(step);
+            file[at..at + 4].copy_from_slice(&changed.to_le_bytes());
+        }
+        if generator.below(8) == 0 {
+            file.truncate(generator.below(file.len() + 1));
+        }
+        obeyed += usize::from(check_rules(&file, &format!("case {case}")));
+    }
+    assert!((50_000..150_000).contains(&obeyed), "{obeyed}");
+}
+
+// ---- ICEPOLE-128
+
+/// The words of a state in the order of their numbers, x + 4y.
+fn in_word_order<T: Copy>(table: [[T; 5]; 4]) -> Vec<T> {
+    (0..20).map(|w| table[w % 4][w / 4]).collect()
+}
+
+#[test]
+fn tables_of_the_permutation() {
+    assert_eq!(page::words("starting words"), in_word_order(STARTING_WORDS));
+    assert_eq!(page::words("constants"), ROUND_CONSTANTS);
+    assert_eq!(page::numbers("offsets"), in_word_order(OFFSETS));
+    let p6: [fn(State) -> State; 2] = [bits::p6, words::p6];
+    for p6 in p6 {
+        assert_eq!(page::words("P6 of zero"), in_word_order(p6(ZERO_STATE)));
+    }
 }
 
 #[test]
 fn vectors_of_sealing() {
-    let none: &[u8] = &[];
     let long = counting(0x00, 130);
     for (name, message) in [
-        ("empty", none),
+        ("empty", &b""[..]),
         ("three bytes", b"fox"),
         ("130 bytes", &long),
     ] {
         let sealed = seal(
             Variant::Icepole128,
-            &counting(0x00, 16),
+            &key(),
             &counting(0x10, 16),
             &counting(0x20, 16),
             &counting(0x30, 12),
@@ -80,6 +379,6 @@ fn vectors_of_sealing() {
             message,
             message.len() + 32,
         );
-        assert_eq!(sealed, Ok(block(name)), "{name}");
+        assert_eq!(sealed, Ok(page::bytes(name)), "{name}");
     }
 }

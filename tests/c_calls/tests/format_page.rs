@@ -1,0 +1,34 @@
+//! The proved sealing and opening of the vectors of docs/FORMAT.md.
+
+use c_calls::case::Case;
+use reference::page;
+use reference::sealing::Variant;
+
+fn counting(from: u8, length: u8) -> Vec<u8> {
+    (0..length).map(|i| from + i).collect()
+}
+
+#[test]
+fn vectors() {
+    for (name, msg) in [
+        ("empty", vec![]),
+        ("three bytes", b"fox".to_vec()),
+        ("130 bytes", counting(0x00, 130)),
+    ] {
+        let case = Case {
+            variant: Variant::Icepole128,
+            key: counting(0x00, 16),
+            nonce: counting(0x10, 16),
+            secret: counting(0x20, 16),
+            ad1: counting(0x30, 12),
+            ad2: vec![],
+            msg,
+        };
+        let vector = page::bytes(name);
+        let mut sealed = vec![0; case.msg.len() + 32];
+        assert_eq!((case.seal(&mut sealed), &sealed), (0, &vector), "{name}");
+        let (mut out, mut info) = (vec![0; case.msg.len()], vec![0; 24]);
+        assert_eq!(case.open(&vector, &mut out, &mut info), 0, "{name}");
+        assert_eq!((out, &info[8..]), (case.msg, &case.secret[..]), "{name}");
+    }
+}
