@@ -2,19 +2,32 @@
  * Burst files of trail cameras: recording, checking, reading back and listing.
  *
  * The functions are written in Rattle and proved to meet their contracts (crates/burst_c). Link libburst_c.a, which `make lib`
- * leaves beside this header in build/lib.
+ * leaves beside this header in build/lib. docs/FORMAT.md has the file byte by byte.
+ *
+ * Machines. The library is for x86-64 Linux, as the Rattle kit builds it, and for no other machine or system.
  *
  * Slices. Every slice is a pointer and a length in bytes. The pointers are valid for their lengths, and slices and numbers that are
  * written overlap nothing else that is lent; the proofs assume it. NULL is not allowed, not even with length 0: an empty slice is any
  * other pointer with length 0. Numbers lent by pointer are aligned and not NULL. What a call writes stands at the front of the slice;
  * later bytes stay. All numbers in files, scripts, answers and infos are little-endian.
  *
- * Every call ends on every input. burst_check, burst_fetch, burst_record and burst_list return a refusal number, 0 when done: the number whose
- * condition is the first in the call's order to hold. A refused call leaves each lent slice with the bytes it had; numbers lent by
- * pointer are written on every call. The mark is 0 except under 7, where it says which tag differs: 0 for the closing seal, else the
- * shot number of the record.
+ * During a call nobody else changes what is lent: no other thread or process, no interrupt, no DMA, and no mapping of a file that
+ * somebody writes. The proofs assume this too. A file that changes while it is checked may be accepted though no tag covers it. What a
+ * call writes is settled when it returns; look at it then. A call keeps nothing for the next one, so several threads may call at the
+ * same time, each with slices of its own to write to; what is only read they may share.
  *
- * Nonces. Under one key, record each burst number once only.
+ * Every call ends on every input. burst_check, burst_fetch, burst_record and burst_list return a refusal number, 0 when done: the
+ * number whose condition is the first in the call's order to hold. A refused call leaves each lent slice with the bytes it had; numbers
+ * lent by pointer are written on every call. The mark is 0 except under 7, where it says which tag differs: 0 for the closing seal,
+ * else the shot number of the record.
+ *
+ * Keys. Make one for each camera, once: 16 bytes of the system's random source, by getrandom() or in a shell by
+ *     (umask 077 && head -c 16 /dev/urandom >camera.key)
+ * Never work a key out from a serial number, a name, a date or a pass phrase. Keep it out of command lines and shell histories, and out
+ * of files that others may read. Whoever has it reads and writes every burst under it.
+ *
+ * Nonces. Under one key, record each burst number once only, whatever became of the first burst: two bursts of one number are sealed
+ * with the same nonces. Cameras that each count from 1 must therefore not share a key.
  */
 #ifndef BURST_H
 #define BURST_H

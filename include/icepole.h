@@ -4,14 +4,26 @@
  * The functions are written in Rattle and proved to meet their contracts (crates/icepole_c). Link libicepole_c.a, which `make lib`
  * leaves beside this header in build/lib.
  *
+ * Machines. The library is for x86-64 Linux, as the Rattle kit builds it, and for no other machine or system.
+ *
  * Slices. Every slice is a pointer and a length in bytes. The pointers are valid for their lengths, and out, info and state overlap no
  * other slice; the proofs assume it. Slices that are only read may overlap. NULL is not allowed, not even with length 0: an empty slice is
  * any other pointer with length 0. All numbers are little-endian.
+ *
+ * During a call nobody else changes what is lent: no other thread or process, no interrupt, no DMA, and no mapping of a file that
+ * somebody writes. The proofs assume this too. A sealed message that changes while it is opened may be let through though no tag covers
+ * it. What a call writes is settled when it returns; look at it then. A call keeps nothing for the next one but what stands in state, so
+ * several threads may call at the same time, each with slices of its own to write to; what is only read they may share.
  *
  * Associated data comes in two parts, ad1 and ad2, and means their joining, ad1 then ad2. Where there is one part, the other is empty.
  *
  * Result. Each function returns a refusal number, 0 when it is done. A number is given where its condition is the first in the order
  * below to hold. A refused call writes nothing, but for a start, which leaves a finished state where state has room for one.
+ *
+ * Keys. Take all bytes of a key, 16 or for 256a 32, from the system's random source, by getrandom() or in a shell by
+ *     (umask 077 && head -c 16 /dev/urandom >camera.key)
+ * Make one for each camera. Never work a key out from a serial number, a name, a date or a pass phrase. Keep it out of command lines
+ * and shell histories, and out of files that others may read.
  *
  * Nonces. A key and a nonce may be used for one sealed message only.
  */
@@ -25,15 +37,16 @@
 extern "C" {
 #endif
 
-/* The refusal numbers. Sealing tests them in the order 1, 2, 3, 4, 5; opening in the order 1, 2, 4, 6, 5, 7; start in the order 1, 2, 3, 4, 5;
- * strip in the order 14, 4, 5; end in the order 14, 5. A state slice that is too short gets 5: in start after all others, in strip and end
- * before them, since there is no state to judge. */
+/* The refusal numbers. Sealing tests them in the order 1, 2, 3, 4, 5; opening in the order 1, 2, 4, 6, 5, 7; start in the order 1, 2, 3,
+ * 4, 5; strip in the order 14, 4, 5; end in the order 14, 5. A state slice that is too short gets 5: in start after all others, in strip
+ * and end before them, since there is no state to judge. */
 enum icepole_refusal {
     ICEPOLE_DONE = 0,
     ICEPOLE_KEY_LENGTH = 1,       /* the key has another length than the variant's */
     ICEPOLE_NONCE_LENGTH = 2,     /* the nonce has another length than the variant's */
     ICEPOLE_SECRET_LENGTH = 3,    /* the secret number has another length than the variant's */
-    ICEPOLE_DATA_TOO_LONG = 4,    /* associated data (both parts together) or message, also the one that a sealed message implies or strips add up to, is above ICEPOLE_MAX_BYTES */
+    ICEPOLE_DATA_TOO_LONG = 4,    /* associated data (both parts together) or message is above ICEPOLE_MAX_BYTES; so too for the
+                                   * message that a sealed message implies, or that strips add up to */
     ICEPOLE_OUTPUT_TOO_SHORT = 5, /* out, in opening info, or for strips state, is too short */
     ICEPOLE_SEALED_TOO_SHORT = 6, /* the sealed message is shorter than the sealed secret number and the tag */
     ICEPOLE_TAG_DIFFERS = 7,      /* the tag differs: not sealed under this key, nonce and associated data */
@@ -111,6 +124,11 @@ uint32_t icepole256a_open(const uint8_t *key, size_t key_len, const uint8_t *non
  * bytes: both would be sealed with the same key stream. A start that is refused leaves a finished state, otherwise zero
  * (nothing where state is too short); refused strips and ends leave state and out as they were. After an end that returns 0 the state
  * is finished, and each further strip or end is refused with 14.
+ *
+ * The end changes the last of the 169 bytes alone. The state stays as secret as before: it is the cipher's state before the last block
+ * was padded. Whoever has it can change the last block, or go on behind it, and make a tag that agrees under the same key and nonce; can
+ * try guesses at the last block; and, where message, associated data and secret number are known, can run the permutation backwards
+ * to the key. Once the tag is made, write zeros over it in a way that the compiler does not leave out (explicit_bzero).
  */
 uint32_t icepole128_start(const uint8_t *key, size_t key_len, const uint8_t *nonce, size_t nonce_len,
                           const uint8_t *secret, size_t secret_len, const uint8_t *ad1, size_t ad1_len,
