@@ -1,7 +1,9 @@
 //! Reference implementation of ICEPOLE and of the burst file sealed with it,
-//! written from the documents alone: the scope paper (01-scope.md) and the
-//! ICEPOLE paper (003). Where the two differ, the scope paper decides. The
-//! proved code is tested against it.
+//! written from the documents alone: the scope paper (document 01) and the
+//! ICEPOLE paper (003), of which README says more. Where the two differ, the
+//! scope paper decides. The proved code is tested against it.
+//!
+//! `page` reads docs/FORMAT.md, for the tests that hold that page true.
 
 pub mod burst;
 pub mod page;
