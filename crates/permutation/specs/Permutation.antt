@@ -83,7 +83,7 @@ constants =
     ∷ 0x00001234F7F89ABC
     ∷ []
 
--- S[0][0] := S[0][0] ⊕ c
+-- S[0][0] := S[0][0] xor c
 abbrev pub addConstant : State → ℕ → State
 addConstant s c = setWord s 0 0 (bitXor (at s 0 0) c)
 
