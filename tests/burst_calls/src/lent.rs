@@ -1,5 +1,6 @@
 //! Slices and numbers that are lent to a call and looked at afterwards.
 
+use std::hint::black_box;
 use std::ops::Range;
 
 /// Bytes before and after the lent part, which no call may write. The count is
@@ -93,14 +94,16 @@ impl Default for LentNumber {
 }
 
 impl LentNumber {
-    pub fn pointer(&mut self) -> *mut u32 {
-        self.numbers.as_mut_ptr().wrapping_add(1)
+    pub fn lent(&mut self) -> &mut u32 {
+        &mut self.numbers[1]
     }
 
     /// The number after the call. If it was not written, it is one that no
     /// call gives.
     pub fn after(&self) -> u32 {
-        let [before, number, after] = self.numbers;
+        // All three are read anew: the compiler may not take it that a call
+        // leaves what stands beside the lent number.
+        let [before, number, after] = *black_box(&self.numbers);
         assert_eq!([before, after], [UNWRITTEN; 2], "beside a lent number");
         number
     }

@@ -4,7 +4,7 @@ use crate::lent::Lent;
 use reference::burst::lister::list;
 
 /// Room for every text.
-pub const LIST_BYTES: usize = 4_800;
+pub use proved_calls::burst::LIST_BYTES;
 
 /// What the lister says of a front that breaks a rule, and of a file that is
 /// longer than any it lists.

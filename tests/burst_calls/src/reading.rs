@@ -8,8 +8,7 @@ use reference::burst::reader::{self, Checked, Fetched, RecordPart};
 use reference::burst::{PlainBurst, Refusal};
 
 /// What check and fetch write into their info.
-pub const CHECK_INFO: usize = 30;
-pub const FETCH_INFO: usize = 22;
+pub use proved_calls::burst::{CHECK_INFO_BYTES as CHECK_INFO, FETCH_INFO_BYTES as FETCH_INFO};
 
 /// Places that are not below kept, though their low bits may be.
 pub const WIDE_PLACES: [usize; 9] = [

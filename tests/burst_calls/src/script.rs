@@ -3,12 +3,10 @@
 use reference::burst::{Answer, Call};
 
 /// The bytes of one answer.
-pub const ANSWER_BYTES: usize = 8;
+pub use proved_calls::burst::ANSWER_BYTES;
 
 /// The bytes that are calls.
-pub const DROP: u8 = 0;
-pub const CLOSE: u8 = 1;
-pub const KEEP: u8 = 2;
+pub use proved_calls::burst::{CALL_CLOSE as CLOSE, CALL_DROP as DROP, CALL_KEEP as KEEP};
 
 /// One call at the end of a script.
 pub fn push_call(script: &mut Vec<u8>, call: &Call) {

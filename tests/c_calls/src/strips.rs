@@ -1,38 +1,11 @@
 //! The C calls of strips, and a strip state as the bytes that are lent to them.
 
+use proved_calls::icepole;
 use reference::permutation::ZERO_STATE;
 use reference::sealing::words::{state_bytes, xor_bytes};
 use reference::strips::StripState;
 
-extern "C" {
-    fn icepole128_start(
-        key: *const u8,
-        key_len: usize,
-        nonce: *const u8,
-        nonce_len: usize,
-        secret: *const u8,
-        secret_len: usize,
-        ad1: *const u8,
-        ad1_len: usize,
-        ad2: *const u8,
-        ad2_len: usize,
-        out: *mut u8,
-        out_len: usize,
-        state: *mut u8,
-        state_len: usize,
-    ) -> u32;
-
-    fn icepole128_strip(
-        state: *mut u8,
-        state_len: usize,
-        msg: *const u8,
-        msg_len: usize,
-        out: *mut u8,
-        out_len: usize,
-    ) -> u32;
-
-    fn icepole128_end(state: *mut u8, state_len: usize, out: *mut u8, out_len: usize) -> u32;
-}
+pub use icepole::{end, strip};
 
 /// What a start is given beside its output and state; the associated data is
 /// in two parts.
@@ -47,47 +20,14 @@ pub struct Start<'a> {
 
 /// The refusal number of a start, 0 when done.
 pub fn start(given: &Start, out: &mut [u8], state: &mut [u8]) -> u32 {
-    // Every pointer goes with the length of its slice, and none is null. The
-    // call writes only to `out` and `state`, which no other slice overlaps.
-    unsafe {
-        icepole128_start(
-            given.key.as_ptr(),
-            given.key.len(),
-            given.nonce.as_ptr(),
-            given.nonce.len(),
-            given.secret.as_ptr(),
-            given.secret.len(),
-            given.ad1.as_ptr(),
-            given.ad1.len(),
-            given.ad2.as_ptr(),
-            given.ad2.len(),
-            out.as_mut_ptr(),
-            out.len(),
-            state.as_mut_ptr(),
-            state.len(),
-        )
-    }
-}
-
-/// The refusal number of a strip, 0 when done.
-pub fn strip(state: &mut [u8], msg: &[u8], out: &mut [u8]) -> u32 {
-    // As for start.
-    unsafe {
-        icepole128_strip(
-            state.as_mut_ptr(),
-            state.len(),
-            msg.as_ptr(),
-            msg.len(),
-            out.as_mut_ptr(),
-            out.len(),
-        )
-    }
-}
-
-/// The refusal number of an end, 0 when done.
-pub fn end(state: &mut [u8], out: &mut [u8]) -> u32 {
-    // As for start.
-    unsafe { icepole128_end(state.as_mut_ptr(), state.len(), out.as_mut_ptr(), out.len()) }
+    let Start {
+        key,
+        nonce,
+        secret,
+        ad1,
+        ad2,
+    } = given;
+    icepole::start(key, nonce, secret, ad1, ad2, out, state)
 }
 
 /// The cipher's state; the count stands behind it.
