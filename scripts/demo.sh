@@ -66,8 +66,8 @@ PATH=$root/tools/burst/target/release:$PATH
 cd "$folder" || exit 1
 
 echo
-echo "A key of 16 bytes and three small pictures, in a temporary folder."
-run_line 'head -c 16 /dev/urandom >camera.key'
+echo "A key of 16 bytes, which nobody else can read, and three small pictures, in a temporary folder."
+run_line '(umask 077; head -c 16 /dev/urandom >camera.key)'
 picture 30 15 0 >fox.ppm
 picture 10 10 12 >badger.ppm
 picture 0 25 5 >marten.ppm
@@ -96,6 +96,7 @@ echo
 echo "One picture alone: place 1 is the second picture that was kept, shot 3."
 run burst fetch --key camera.key --place 1 --out badger-again.ppm 7.burst
 run cmp badger.ppm badger-again.ppm
+run_line 'burst fetch --key camera.key --place 1 --out - 7.burst | cmp badger.ppm -'
 
 echo
 echo "Somebody changes one byte of the first picture's record. The file is refused with 7, and no picture is written."

@@ -1,8 +1,10 @@
 //! The command line.
 
+use crate::files::{Input, Output};
 use crate::help;
 use crate::messages::Failure;
 use crate::secrets::parse_mark;
+use crate::show;
 use std::ffi::{OsStr, OsString};
 use std::path::PathBuf;
 
@@ -12,42 +14,42 @@ pub enum Command {
     Print(String),
     Record(Record),
     List {
-        file: PathBuf,
+        file: Input,
     },
     Check {
-        key: PathBuf,
-        file: PathBuf,
+        key: Input,
+        file: Input,
     },
     Fetch(Fetch),
     Explain {
-        file: PathBuf,
+        file: Input,
     },
 }
 
 pub struct Record {
-    pub key: PathBuf,
+    pub key: Input,
     pub burst_number: u64,
     pub site_mark: Vec<u8>,
-    pub out: PathBuf,
+    pub out: Output,
     pub force: bool,
     pub shots: Vec<Shot>,
 }
 
 /// A shot, in the order of firing.
 pub enum Shot {
-    Keep { stamp: Vec<u8>, picture: PathBuf },
+    Keep { stamp: Vec<u8>, picture: Input },
     Drop,
 }
 
 pub struct Fetch {
-    pub key: PathBuf,
-    pub file: PathBuf,
+    pub key: Input,
+    pub file: Input,
     pub force: bool,
     pub pictures: Wanted,
 }
 
 pub enum Wanted {
-    One { place: PlaceTyped, out: PathBuf },
+    One { place: PlaceTyped, out: Output },
     All { folder: PathBuf },
 }
 
@@ -103,7 +105,8 @@ const READERS: [Reader; 5] = [
         help: help::CHECK,
         options: &[KEY],
         read: |given| {
-            let (key, file) = (given.path("--key")?, given.file()?);
+            let (key, file) = (given.key()?, given.file()?);
+            given.test_inputs([&key, &file])?;
             Ok(Command::Check { key, file })
         },
     },
@@ -145,7 +148,10 @@ pub fn parse(words: Vec<OsString>) -> Result<Command, Failure> {
         return Ok(Command::Print(format!("burst {version}\n")));
     }
     let Some(reader) = READERS.iter().find(|reader| first == reader.name) else {
-        return Err(usage("", format!("there is no command `{}`", show(&first))));
+        return Err(usage(
+            "",
+            format!("there is no command `{}`", show::word(&first)),
+        ));
     };
     match Given::split(reader, words)? {
         Some(given) => (reader.read)(given),
@@ -155,10 +161,6 @@ pub fn parse(words: Vec<OsString>) -> Result<Command, Failure> {
 
 fn usage(command: &'static str, problem: String) -> Failure {
     Failure::Usage { command, problem }
-}
-
-fn show(word: &OsStr) -> String {
-    word.to_string_lossy().into_owned()
 }
 
 /// The words of a command, split into options with their values, in order, and
@@ -192,7 +194,7 @@ impl Given {
                 let values = given.values(name, values, &mut words)?;
                 given.options.push((name, values));
             } else if is_option(&word) {
-                return Err(given.wrong(format!("there is no option {}", show(&word))));
+                return Err(given.wrong(format!("there is no option {}", show::word(&word))));
             } else {
                 given.others.push(word);
             }
@@ -213,7 +215,7 @@ impl Given {
             match words.next() {
                 Some(word) if !word.as_encoded_bytes().starts_with(b"--") => values.push(word),
                 Some(word) => {
-                    let found = show(&word);
+                    let found = show::word(&word);
                     return Err(self.wrong(format!("{option} wants {name}, and finds {found}")));
                 }
                 None => return Err(self.wrong(format!("{option} wants {name} after it"))),
@@ -241,8 +243,20 @@ impl Given {
         found.ok_or_else(|| self.wrong(format!("{name} is missing")))
     }
 
-    fn path(&self, name: &str) -> Result<PathBuf, Failure> {
-        Ok(self.one(name)?.into())
+    fn key(&self) -> Result<Input, Failure> {
+        Ok(Input::of(self.one("--key")?))
+    }
+
+    /// Standard input is read once at most.
+    fn test_inputs<'a>(&self, inputs: impl IntoIterator<Item = &'a Input>) -> Result<(), Failure> {
+        let is_standard = |input: &&Input| matches!(input, Input::Standard);
+        match inputs.into_iter().filter(is_standard).count() {
+            0 | 1 => Ok(()),
+            _ => {
+                let problem = "- is standard input, which is read once, and - is given twice";
+                Err(self.wrong(problem.into()))
+            }
+        }
     }
 
     fn flag(&self, name: &str) -> bool {
@@ -250,19 +264,20 @@ impl Given {
     }
 
     /// The one burst file.
-    fn file(&self) -> Result<PathBuf, Failure> {
+    fn file(&self) -> Result<Input, Failure> {
         match self.others.as_slice() {
-            [file] => Ok(file.into()),
+            [file] => Ok(Input::of(file)),
             [] => Err(self.wrong("the burst file is missing".into())),
-            [_, more, ..] => {
-                Err(self.wrong(format!("one file is wanted; {} is one more", show(more))))
-            }
+            [_, more, ..] => Err(self.wrong(format!(
+                "one file is wanted; {} is one more",
+                show::word(more)
+            ))),
         }
     }
 
     /// Decimal digits, as text.
     fn digits(&self, name: &str, word: &OsStr) -> Result<String, Failure> {
-        let text = show(word);
+        let text = show::word(word);
         match !text.is_empty() && text.bytes().all(|byte| byte.is_ascii_digit()) {
             true => Ok(text),
             false => Err(self.wrong(format!("{name} wants decimal digits, not `{text}`"))),
@@ -279,7 +294,7 @@ impl Given {
     }
 }
 
-/// A word with a dash in front; a dash alone is standard input.
+/// A word with a dash in front; a dash alone is standard input or output.
 fn is_option(word: &OsStr) -> bool {
     word.len() > 1 && word.as_encoded_bytes().starts_with(b"-")
 }
@@ -288,7 +303,7 @@ fn read_record(given: Given) -> Result<Command, Failure> {
     if let Some(other) = given.others.first() {
         let problem = format!(
             "{} stands alone; a shot is --keep STAMP PICTURE or --drop",
-            show(other)
+            show::word(other)
         );
         return Err(given.wrong(problem));
     }
@@ -299,17 +314,23 @@ fn read_record(given: Given) -> Result<Command, Failure> {
         match (*name, values.as_slice()) {
             ("--keep", [stamp, picture]) => shots.push(Shot::Keep {
                 stamp: given.mark("the stamp of --keep", stamp)?,
-                picture: picture.into(),
+                picture: Input::of(picture),
             }),
             ("--drop", _) => shots.push(Shot::Drop),
             _ => {}
         }
     }
+    let key = given.key()?;
+    let pictures = shots.iter().filter_map(|shot| match shot {
+        Shot::Keep { picture, .. } => Some(picture),
+        Shot::Drop => None,
+    });
+    given.test_inputs(pictures.chain([&key]))?;
     Ok(Command::Record(Record {
-        key: given.path("--key")?,
+        key,
         burst_number: number.parse().map_err(too_large)?,
         site_mark: given.mark("--site-mark", given.one("--site-mark")?)?,
-        out: given.path("--out")?,
+        out: Output::of(given.one("--out")?),
         force: given.flag("--force"),
         shots,
     }))
@@ -324,10 +345,12 @@ fn read_fetch(given: Given) -> Result<Command, Failure> {
             let typed = given.digits("--place", place)?;
             let number = typed.parse().unwrap_or(usize::MAX);
             let place = PlaceTyped { typed, number };
-            Wanted::One {
-                place,
-                out: out.into(),
-            }
+            let out = Output::of(out);
+            Wanted::One { place, out }
+        }
+        (None, None, Some(folder)) if folder == "-" => {
+            let problem = "--all wants a folder, and - is none; a folder of that name is ./-";
+            return Err(given.wrong(problem.into()));
         }
         (None, None, Some(folder)) => Wanted::All {
             folder: folder.into(),
@@ -337,9 +360,11 @@ fn read_fetch(given: Given) -> Result<Command, Failure> {
             return Err(given.wrong(problem.into()));
         }
     };
+    let (key, file) = (given.key()?, given.file()?);
+    given.test_inputs([&key, &file])?;
     Ok(Command::Fetch(Fetch {
-        key: given.path("--key")?,
-        file: given.file()?,
+        key,
+        file,
         force: given.flag("--force"),
         pictures,
     }))

@@ -1,10 +1,9 @@
 //! The layout of a file as a picture in text. It needs no key.
 
-use crate::files::{self, Burst};
+use crate::files::{self, Burst, Input};
 use crate::layout::{self, Entry, Field, Header, ENTRY_BYTES, FIELDS, HEADER_BYTES, SEAL_BYTES};
 use crate::library::{self, MAX_FILE_BYTES};
 use crate::messages::{Failure, FRONT_EXPLAINED};
-use std::path::Path;
 
 const FRONT_BROKEN: u32 = 12;
 
@@ -12,8 +11,8 @@ const FRONT_BROKEN: u32 = 12;
 const WIDTH: usize = 60;
 
 /// `burst explain`.
-pub fn explain(path: &Path) -> Result<(), Failure> {
-    let Burst { name, bytes } = files::read_burst(path)?;
+pub fn explain(file: &Input) -> Result<(), Failure> {
+    let Burst { name, bytes } = files::read_burst(file)?;
     match Header::of(&bytes) {
         Some(header) if front_is_right(&bytes) => files::print(&drawing(&bytes, &header)),
         _ => {

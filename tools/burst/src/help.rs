@@ -16,15 +16,28 @@ Commands:
   burst COMMAND --help        says more of a command
   burst --version             shows the version
 
-A burst FILE that is - is read from standard input (list, check, fetch, explain).
 A shot number counts firings from 1. A place counts kept pictures from 0.
+
+A dash in place of a file is standard input (key, burst, picture of --keep; one of
+them) or standard output (--out). A file that is called - is ./-. A file that goes to
+standard output is complete and checked before its first byte is written; what the
+command has to say goes to standard error then.
 
 Keys:
   A key is read from a file, never from the command line: 16 raw bytes, or 32 hex
-  digits with or without a line end.
+  digits with or without a line end. To make one, for each camera its own:
+      (umask 077; head -c 16 /dev/urandom > camera.key)
+  Whoever can read it opens every burst of the camera, and can make others in its
+  name. Keep it readable for yourself alone: `chmod 600 camera.key`.
 
 Output files:
-  They are written whole or not at all, and no file is replaced without --force.
+  They are written whole or not at all, also where INT, TERM or HUP ends the command,
+  and no file is replaced without --force. With --force the new file has owner, group
+  and rights of the old one; where they cannot be kept, it is for its owner alone.
+  Other new files follow the umask.
+  Until they are complete, they have hidden names, .burst-NUMBER-NUMBER, and only you
+  can read them. A KILL or a power cut may leave such a file or folder: it may hold
+  pictures, so remove it. `burst fetch --help` says where it stands.
 
 Exit status:
   0   done
@@ -38,8 +51,10 @@ Exit status:
   64  the command line is wrong
   65  list: the file has more than 65,536 bytes
   73  an output file exists already, or the folder of --all is not empty (see --force);
-      or an output is not a plain file
+      or an output is not a plain file, or a terminal; or that of --all is not a folder
   74  a file cannot be read or written
+  A signal that ends the command shows as with every program (a shell says 130 for
+  INT, 143 for TERM, 129 for HUP).
 ";
 
 pub const RECORD: &str = "\
@@ -47,17 +62,18 @@ burst record --key FILE --number N --site-mark MARK --out FILE [--force] SHOTS..
 
 Seals the pictures of one trigger into a new burst file.
 
-  --key FILE         the camera's key: 16 raw bytes, or 32 hex digits
+  --key FILE         the camera's key: 16 raw bytes, or 32 hex digits; `burst --help`
+                     says how to make one
   --number N         the burst number, 0 to 18446744073709551615. Under one key, use
                      each burst number once only: a number used twice gives away what
                      the pictures of both bursts have in common
   --site-mark MARK   where the camera stands, 16 bytes
-  --out FILE         the burst file to write
-  --force            replaces the file if it exists
+  --out FILE         the burst file to write; - is standard output
+  --force            replaces the file if it exists, and keeps its rights
 
 Shots, in the order of firing, at most 60:
   --keep STAMP PICTURE   a picture that is kept: its stamp of 16 bytes, and its file
-                         of 1 to 1,048,576 bytes
+                         of 1 to 1,048,576 bytes; - is standard input
   --drop                 a shot whose picture is not kept
 
 MARK and STAMP are hex: and 32 hex digits, or else text of 1 to 16 bytes, which is
@@ -99,8 +115,9 @@ burst fetch --key FILE --all DIRECTORY [--force] FILE
 
 Checks a whole burst file as `burst check` does, and only then writes pictures.
 
-  --place N --out PICTURE   the picture of place N to the file PICTURE. Places count
-                            kept pictures from 0; they are not shot numbers
+  --place N --out PICTURE   the picture of place N to the file PICTURE; - is standard
+                            output. Places count kept pictures from 0; they are not
+                            shot numbers
   --all DIRECTORY           every kept picture to a file of its own in DIRECTORY, named
                             by its shot number: shot-002 is the second shot. DIRECTORY
                             is new or empty, so that pictures of two bursts are not
@@ -109,9 +126,19 @@ Checks a whole burst file as `burst check` does, and only then writes pictures.
   --force                   replaces files that exist, and writes into a DIRECTORY that
                             is not empty; its other files stay there
 
+A new DIRECTORY is written under a hidden name beside it, .burst-NUMBER-NUMBER, and
+renamed when all pictures are there. Into one that is there already they are moved from
+a hidden folder of such a name in it, one right after the other, and files that they
+replace are kept in the hidden folder until all are moved. INT, TERM and HUP leave
+nothing of this. A KILL or a power cut may leave the hidden folder, and then some of the
+pictures may stand in a DIRECTORY that was there already. The hidden folder may hold
+pictures, so remove it; files named replaced-shot-NUMBER in it are those that stood in
+DIRECTORY before. Beside a new DIRECTORY it stops no later fetch; in a DIRECTORY it does,
+with 73 and its name.
+
 It shows shot number, place, length and stamp of each picture. Exit status as of
 `burst check`, and 13 if there is no picture at that place, 73 if DIRECTORY is not
-empty or PICTURE exists, without --force.
+empty or PICTURE exists, without --force, or if DIRECTORY is there and is not a folder.
 ";
 
 pub const EXPLAIN: &str = "\

@@ -1,12 +1,12 @@
 //! The fields of a burst file's front, and which front rules they break, for
 //! people to read. Whether a front is right, the library decides.
 
-use crate::library::{MAX_FILE_BYTES, MAX_PICTURE_BYTES, MAX_SHOTS};
+use crate::library::{self, MAX_FILE_BYTES, MAX_PICTURE_BYTES, MAX_SHOTS};
 
 pub const HEADER_BYTES: u64 = 32;
-pub const ENTRY_BYTES: u64 = 12;
-pub const SEAL_BYTES: u64 = 32;
-const MIN_FILE_BYTES: u64 = 64;
+pub const ENTRY_BYTES: u64 = library::ENTRY_BYTES as u64;
+pub const SEAL_BYTES: u64 = library::SEAL_BYTES as u64;
+const MIN_FILE_BYTES: u64 = library::MIN_FILE_BYTES as u64;
 
 /// A field of the header.
 pub struct Field {

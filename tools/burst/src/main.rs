@@ -8,13 +8,17 @@ mod explain;
 mod files;
 mod help;
 mod layout;
-#[allow(unsafe_code)]
 mod library;
 mod messages;
+mod outputs;
 mod progress;
 mod read;
 mod record;
+mod rights;
 mod secrets;
+mod show;
+#[allow(unsafe_code)]
+mod system;
 
 use arguments::Command;
 use messages::Failure;
@@ -33,10 +37,11 @@ fn run() -> Result<(), Failure> {
 }
 
 fn main() -> ExitCode {
+    system::prepare();
     match run() {
         Ok(()) => ExitCode::SUCCESS,
         Err(failure) => {
-            messages::show(&failure);
+            messages::tell(&failure);
             ExitCode::from(failure.status())
         }
     }

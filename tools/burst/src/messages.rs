@@ -1,6 +1,7 @@
 //! What can go wrong, in words: the refusals of the scope document and the
 //! failures of the tool itself, each with its exit status.
 
+use crate::show;
 use std::io::{self, ErrorKind, Write};
 use std::path::{Path, PathBuf};
 
@@ -28,16 +29,28 @@ pub enum Failure {
     Exists(PathBuf),
     /// Something that is not a plain file has the name of an output.
     NotAFile(PathBuf),
-    /// A folder for all pictures has files, and --force was not given.
-    NotEmpty(PathBuf),
-    /// A file could not be read, written or named.
+    /// Something that is not a folder has the name of the folder of --all.
+    NotAFolder(PathBuf),
+    /// A folder for all pictures has files, and --force was not given. One of
+    /// them may be what a run left that was killed.
+    NotEmpty {
+        folder: PathBuf,
+        left: Option<PathBuf>,
+    },
+    /// A file was to go to a terminal.
+    Terminal,
+    /// A file could not be read, written or named. The name is as it is shown.
     File {
         doing: &'static str,
-        path: PathBuf,
+        name: String,
         error: io::Error,
     },
-    /// Standard output could not be written. Output files stand by then.
+    /// Text could not be written to standard output. Output files stand by then.
     Print(io::Error),
+    /// A file could not be written to standard output whole.
+    Cut(io::Error),
+    /// A signal has come that ends the program, and does so before this is told.
+    Interrupted,
 }
 
 impl Failure {
@@ -52,8 +65,11 @@ impl Failure {
     }
 
     pub fn file(doing: &'static str, path: &Path, error: io::Error) -> Self {
-        let path = path.to_path_buf();
-        Failure::File { doing, path, error }
+        Failure::named(doing, show::path(path), error)
+    }
+
+    pub fn named(doing: &'static str, name: String, error: io::Error) -> Self {
+        Failure::File { doing, name, error }
     }
 
     pub fn status(&self) -> u8 {
@@ -62,8 +78,14 @@ impl Failure {
             // Every number of the library is far below 256.
             Failure::Refused { number, .. } => u8::try_from(*number).unwrap_or(u8::MAX),
             Failure::TooLong => TOO_LONG,
-            Failure::Exists(_) | Failure::NotAFile(_) | Failure::NotEmpty(_) => OUTPUT_THERE,
-            Failure::File { .. } | Failure::Print(_) => FILE,
+            Failure::Exists(_)
+            | Failure::NotAFile(_)
+            | Failure::NotAFolder(_)
+            | Failure::NotEmpty { .. }
+            | Failure::Terminal => OUTPUT_THERE,
+            Failure::File { .. } | Failure::Print(_) | Failure::Cut(_) | Failure::Interrupted => {
+                FILE
+            }
         }
     }
 
@@ -75,15 +97,22 @@ impl Failure {
                 format!("refused with {number}: {}: {about}", words(*number))
             }
             Failure::TooLong => "the file has more than 65,536 bytes; list reads no more".into(),
-            Failure::Exists(path) => format!("{} exists already", path.display()),
+            Failure::Exists(path) => format!("{} exists already", show::path(path)),
             Failure::NotAFile(path) => {
-                format!("{} is there and is not a plain file", path.display())
+                format!("{} is there and is not a plain file", show::path(path))
             }
-            Failure::NotEmpty(path) => format!("the folder {} is not empty", path.display()),
-            Failure::File { doing, path, error } => {
-                format!("cannot {doing} {}: {error}", path.display())
+            Failure::NotAFolder(path) => {
+                format!("{} is there and is not a folder", show::path(path))
             }
-            Failure::Print(error) => format!("cannot write to standard output: {error}"),
+            Failure::NotEmpty { folder, .. } => {
+                format!("the folder {} is not empty", show::path(folder))
+            }
+            Failure::Terminal => "standard output is a terminal; it gets no file".into(),
+            Failure::File { doing, name, error } => format!("cannot {doing} {name}: {error}"),
+            Failure::Print(error) | Failure::Cut(error) => {
+                format!("cannot write to standard output: {error}")
+            }
+            Failure::Interrupted => "interrupted".into(),
         }
     }
 
@@ -100,16 +129,27 @@ impl Failure {
             }
             Failure::Exists(_) => "Give another name, or --force to replace the file.".into(),
             Failure::NotAFile(_) => "Give another name; --force replaces plain files only.".into(),
-            Failure::NotEmpty(_) => {
+            Failure::NotAFolder(_) => "Give another name for the folder of --all.".into(),
+            Failure::NotEmpty { left: None, .. } => {
                 "Name a new or an empty folder, so that pictures of two bursts are not mixed; \
                  --force writes into this one, and leaves its other files there."
                     .into()
             }
+            Failure::NotEmpty {
+                left: Some(left), ..
+            } => format!(
+                "Unless another fetch runs now, one that was killed has left {}, which may hold \
+                 pictures: remove it. Files replaced-.. in it stood in the folder before.",
+                show::path(left)
+            ),
+            Failure::Terminal => "Send it to a file or a pipe, or name a file.".into(),
             Failure::File { .. } => {
                 "Look at the name, the rights and the room there. No output file was written."
                     .into()
             }
             Failure::Print(_) => "Output files, where they were asked for, are written.".into(),
+            Failure::Cut(_) => "What went there is not whole: do not use it.".into(),
+            Failure::Interrupted => "No output file was written.".into(),
         }
     }
 }
@@ -163,10 +203,12 @@ fn advice(number: u32) -> &'static str {
 
 /// Writes the failure to standard error. Where that cannot be written either,
 /// the exit status is all that is left to say it.
-pub fn show(failure: &Failure) {
+pub fn tell(failure: &Failure) {
     // Whoever reads standard output has seen enough and closed it.
-    if matches!(failure, Failure::Print(error) if error.kind() == ErrorKind::BrokenPipe) {
-        return;
+    if let Failure::Print(error) | Failure::Cut(error) = failure {
+        if error.kind() == ErrorKind::BrokenPipe {
+            return;
+        }
     }
     let text = format!("burst: {}\n  {}\n", failure.problem(), failure.remedy());
     let _ = io::stderr().write_all(text.as_bytes());

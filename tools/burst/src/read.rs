@@ -1,12 +1,14 @@
 //! The commands that read a burst file: list, check and fetch.
 
 use crate::arguments::{Fetch, PlaceTyped, Wanted};
-use crate::files::{self, Burst, Outputs};
+use crate::files::{self, Burst, Input, Output};
 use crate::library::{self, Checked, Fetched, Refused, MAX_PICTURE_BYTES};
 use crate::messages::{Failure, RECORD_CHANGED};
+use crate::outputs::Folder;
 use crate::progress::{megabytes, Progress};
 use crate::secrets::{self, show_mark};
-use std::path::{Path, PathBuf};
+use crate::show;
+use std::path::Path;
 
 const KEY_LENGTH: u32 = 1;
 const TAG_DIFFERS: u32 = 7;
@@ -28,8 +30,8 @@ fn refused(file: &str, refused: Refused) -> Failure {
 }
 
 /// `burst list`: what the lister prints, and a refusal where it prints one.
-pub fn list(path: &Path) -> Result<(), Failure> {
-    let Burst { name, bytes } = files::read_burst(path)?;
+pub fn list(file: &Input) -> Result<(), Failure> {
+    let Burst { name, bytes } = files::read_burst(file)?;
     let text = library::list(&bytes).map_err(|found| refused(&name, found))?;
     files::print(&String::from_utf8_lossy(&text))?;
     match text.as_slice() {
@@ -46,14 +48,14 @@ struct Accepted {
     checked: Checked,
 }
 
-fn accept(key_path: &Path, path: &Path) -> Result<Accepted, Failure> {
-    let key = secrets::read_key(key_path)?;
-    let burst = files::read_burst(path)?;
+fn accept(key_file: &Input, file: &Input) -> Result<Accepted, Failure> {
+    let key = secrets::read_key(key_file)?;
+    let burst = files::read_burst(file)?;
     let length = burst.bytes.len();
     let progress = Progress::new(length);
     progress.say(&format!("checking {}", megabytes(length)));
     let checked = library::check(&key, &burst.bytes).map_err(|found| match found.number {
-        KEY_LENGTH => refused(&key_path.display().to_string(), found),
+        KEY_LENGTH => refused(&key_file.name(), found),
         _ => refused(&burst.name, found),
     })?;
     Ok(Accepted {
@@ -64,8 +66,8 @@ fn accept(key_path: &Path, path: &Path) -> Result<Accepted, Failure> {
 }
 
 /// `burst check`.
-pub fn check(key: &Path, path: &Path) -> Result<(), Failure> {
-    let checked = accept(key, path)?.checked;
+pub fn check(key: &Input, file: &Input) -> Result<(), Failure> {
+    let checked = accept(key, file)?.checked;
     let Checked {
         burst_number,
         taken,
@@ -82,12 +84,13 @@ pub fn check(key: &Path, path: &Path) -> Result<(), Failure> {
 /// `burst fetch`. Nothing is written before check has accepted the file.
 pub fn fetch(wanted: &Fetch) -> Result<(), Failure> {
     let accepted = accept(&wanted.key, &wanted.file)?;
-    let outputs = Outputs::new(wanted.force);
-    let text = match &wanted.pictures {
-        Wanted::One { place, out } => fetch_one(&accepted, place, out, outputs)?,
-        Wanted::All { folder } => fetch_all(&accepted, folder, outputs)?,
-    };
-    files::print(&text)
+    match &wanted.pictures {
+        Wanted::One { place, out } => fetch_one(&accepted, place, out, wanted.force),
+        Wanted::All { folder } => {
+            let text = fetch_all(&accepted, folder, wanted.force)?;
+            files::print(&text)
+        }
+    }
 }
 
 impl Accepted {
@@ -109,50 +112,51 @@ impl Accepted {
 }
 
 /// A picture and where it went.
-fn fetched_line(place: usize, fetched: &Fetched, target: &Path) -> String {
+fn fetched_line(place: usize, fetched: &Fetched, target: &str) -> String {
     let Fetched { shot, length, .. } = fetched;
-    let (stamp, target) = (show_mark(&fetched.stamp), target.display());
+    let stamp = show_mark(&fetched.stamp);
     format!("shot {shot} place {place} length {length} stamp {stamp} to {target}\n")
 }
 
 fn fetch_one(
     accepted: &Accepted,
     place: &PlaceTyped,
-    out: &Path,
-    mut outputs: Outputs,
-) -> Result<String, Failure> {
+    out: &Output,
+    force: bool,
+) -> Result<(), Failure> {
     let number = place.number;
     let mut room = vec![0; MAX_PICTURE_BYTES];
     let progress = Progress::new(accepted.burst.bytes.len());
     progress.say(&format!("fetching place {number}"));
     let fetched = accepted.fetch(number, &place.typed, &mut room)?;
-    outputs.write(out, &room[..fetched.length])?;
-    outputs.place()?;
-    Ok(fetched_line(number, &fetched, out))
+    drop(progress);
+    out.write(&room[..fetched.length], force)?;
+    out.report(&fetched_line(number, &fetched, &out.name()))
 }
 
 /// The name of a picture's file: three digits, so that names sort as shots.
-fn picture_name(folder: &Path, shot: u16) -> PathBuf {
-    folder.join(format!("shot-{shot:03}"))
+fn picture_name(shot: u16) -> String {
+    format!("shot-{shot:03}")
 }
 
-fn fetch_all(accepted: &Accepted, folder: &Path, mut outputs: Outputs) -> Result<String, Failure> {
+fn fetch_all(accepted: &Accepted, folder: &Path, force: bool) -> Result<String, Failure> {
     let kept = accepted.checked.kept;
-    // Every fetch checks the whole file again.
-    let progress = Progress::new(accepted.burst.bytes.len() * usize::from(kept));
     let mut room = vec![0; MAX_PICTURE_BYTES];
     let mut text = String::new();
     let mut shot_before = 0;
-    outputs.make_folder(folder)?;
+    let mut outputs = Folder::new(folder, force)?;
+    // Every fetch checks the whole file again.
+    let progress = Progress::new(accepted.burst.bytes.len() * usize::from(kept));
     for place in 0..usize::from(kept) {
         progress.say(&format!("fetching picture {} of {kept}", place + 1));
         let fetched = accepted.fetch(place, &place.to_string(), &mut room)?;
-        let target = picture_name(folder, fetched.shot);
-        outputs.write(&target, &room[..fetched.length])?;
+        let name = picture_name(fetched.shot);
+        outputs.write(&name, &room[..fetched.length])?;
         text += &dropped_lines(shot_before + 1, fetched.shot);
-        text += &fetched_line(place, &fetched, &target);
+        text += &fetched_line(place, &fetched, &show::path(&outputs.target(&name)));
         shot_before = fetched.shot;
     }
+    drop(progress);
     outputs.place()?;
     text += &dropped_lines(shot_before + 1, accepted.checked.taken + 1);
     Ok(text)

@@ -2,18 +2,15 @@
 //! buffer that the library fills becomes the file.
 
 use crate::arguments::{Record, Shot};
-use crate::files::{self, Outputs};
 use crate::library::{self, ANSWER_BYTES, MAX_PICTURE_BYTES, MAX_SHOTS};
 use crate::library::{CALL_CLOSE, CALL_DROP, CALL_KEEP};
+use crate::library::{ENTRY_BYTES, MIN_FILE_BYTES, SEAL_BYTES};
 use crate::messages::Failure;
 use crate::progress::{megabytes, Progress};
 use crate::secrets;
 
-/// The length of a burst file with no picture.
-const EMPTY_FILE_BYTES: usize = 64;
-/// What a kept picture adds to a file beside its own bytes: 32 of its record
-/// and 12 of its index entry.
-const KEPT_BYTES: usize = 32 + 12;
+/// What a kept picture adds to a file beside its own bytes.
+const KEPT_BYTES: usize = SEAL_BYTES + ENTRY_BYTES;
 
 /// The calls after begin, as the library reads them.
 struct Script {
@@ -29,7 +26,7 @@ fn script_of(shots: &[Shot]) -> Result<Script, Failure> {
     let mut script = Script {
         bytes: Vec::new(),
         calls: 0,
-        file_bytes: EMPTY_FILE_BYTES,
+        file_bytes: MIN_FILE_BYTES,
     };
     for shot in shots.iter().take(MAX_SHOTS + 1) {
         match shot {
@@ -37,7 +34,7 @@ fn script_of(shots: &[Shot]) -> Result<Script, Failure> {
             Shot::Keep { stamp, picture } => {
                 // One byte more than the longest picture is enough for the
                 // library to refuse it.
-                let picture = files::read_up_to(picture, MAX_PICTURE_BYTES + 1)?;
+                let picture = picture.read_up_to(MAX_PICTURE_BYTES + 1)?;
                 script.push_keep(stamp, &picture);
             }
         }
@@ -65,16 +62,16 @@ impl Script {
 fn about(wanted: &Record, call: usize, number: u32) -> String {
     if call == 0 {
         return match number {
-            1 => wanted.key.display().to_string(),
+            1 => wanted.key.name(),
             _ => format!("the site mark has {}", wanted.site_mark.len()),
         };
     }
     match wanted.shots.get(call - 1) {
         Some(Shot::Keep { stamp, picture }) if number == 3 => {
-            let (length, picture) = (stamp.len(), picture.display());
+            let (length, picture) = (stamp.len(), picture.name());
             format!("the stamp of shot {call} ({picture}) has {length}")
         }
-        Some(Shot::Keep { picture, .. }) => format!("shot {call} ({})", picture.display()),
+        Some(Shot::Keep { picture, .. }) => format!("shot {call} ({})", picture.name()),
         Some(Shot::Drop) => format!("shot {call}, which was to be dropped"),
         None => "the close".into(),
     }
@@ -122,24 +119,22 @@ fn seal(wanted: &Record, key: &[u8], script: &Script) -> Result<Vec<u8>, Failure
 
 /// `burst record`.
 pub fn record(wanted: &Record) -> Result<(), Failure> {
-    let mut outputs = Outputs::new(wanted.force);
-    outputs.test(&wanted.out)?;
+    wanted.out.test(wanted.force)?;
     let key = secrets::read_key(&wanted.key)?;
     let script = script_of(&wanted.shots)?;
     let file = seal(wanted, &key, &script)?;
-    outputs.write(&wanted.out, &file)?;
-    outputs.place()?;
+    wanted.out.write(&file, wanted.force)?;
     let taken = wanted.shots.len();
     let kept = wanted
         .shots
         .iter()
         .filter(|shot| matches!(shot, Shot::Keep { .. }))
         .count();
-    files::print(&format!(
+    wanted.out.report(&format!(
         "burst {} taken {taken} kept {kept} dropped {} to {}, {} bytes\n",
         wanted.burst_number,
         taken - kept,
-        wanted.out.display(),
+        wanted.out.name(),
         file.len()
     ))
 }

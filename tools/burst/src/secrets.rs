@@ -1,11 +1,12 @@
 //! Keys, stamps and site marks, as they are typed and shown.
 
-use crate::files;
+use crate::files::Input;
+use crate::library::{KEY_BYTES, STAMP_BYTES};
 use crate::messages::Failure;
-use std::path::Path;
+use crate::show;
 
-const KEY_BYTES: usize = 16;
-const MARK_BYTES: usize = 16;
+/// A stamp or a site mark.
+const MARK_BYTES: usize = STAMP_BYTES;
 
 /// A key file is read no further than this: one byte more than 32 hex digits
 /// with a line end of two bytes.
@@ -16,8 +17,8 @@ const HEX: &str = "hex:";
 
 /// The key of a file: 16 raw bytes, or 32 hex digits with or without a line
 /// end. What is neither is given on as it is, for the library to refuse it.
-pub fn read_key(path: &Path) -> Result<Vec<u8>, Failure> {
-    let bytes = files::read_up_to(path, KEY_FILE_LIMIT)?;
+pub fn read_key(file: &Input) -> Result<Vec<u8>, Failure> {
+    let bytes = file.read_up_to(KEY_FILE_LIMIT)?;
     let line = bytes.strip_suffix(b"\n").unwrap_or(&bytes);
     let line = line.strip_suffix(b"\r").unwrap_or(line);
     if line.len() != 2 * KEY_BYTES {
@@ -41,8 +42,12 @@ fn from_hex(digits: &[u8]) -> Option<Vec<u8>> {
 /// long, empty text too, is left as it is, for the library to refuse it.
 pub fn parse_mark(typed: &str) -> Result<Vec<u8>, String> {
     if let Some(digits) = typed.strip_prefix(HEX) {
-        return from_hex(digits.as_bytes())
-            .ok_or_else(|| format!("{HEX} wants pairs of hex digits after it, not `{digits}`"));
+        return from_hex(digits.as_bytes()).ok_or_else(|| {
+            format!(
+                "{HEX} wants pairs of hex digits after it, not `{}`",
+                show::bytes(digits.as_bytes())
+            )
+        });
     }
     let mut bytes = typed.as_bytes().to_vec();
     if (1..MARK_BYTES).contains(&bytes.len()) {
@@ -60,7 +65,7 @@ pub fn show_mark(mark: &[u8; MARK_BYTES]) -> String {
         .map_or(0, |at| at + 1);
     match std::str::from_utf8(&mark[..length]) {
         Ok(text) if length > 0 && !text.contains(char::is_control) => {
-            format!("{text:?} {HEX}{digits}")
+            format!("\"{}\" {HEX}{digits}", show::bytes(text.as_bytes()))
         }
         _ => format!("{HEX}{digits}"),
     }

@@ -1,8 +1,10 @@
 //! A temporary folder to run the tool in, and what the tests share.
 
 use std::fs;
+use std::io::Write;
+use std::os::unix::fs::PermissionsExt;
 use std::path::{Path, PathBuf};
-use std::process::{Command, Output, Stdio};
+use std::process::{Child, Command, Output, Stdio};
 use std::sync::atomic::{AtomicU32, Ordering};
 
 /// The worked file of docs/FORMAT.md: burst 7 with drop, keep of `fox`, drop.
@@ -140,11 +142,49 @@ impl Folder {
     /// The tool's line, run by a shell in which no file may grow beyond some
     /// blocks of 512 bytes.
     pub fn say_short_of_room(&self, blocks: u32, line: &str) -> Run {
+        self.say_after(&format!("ulimit -f {blocks}"), line)
+    }
+
+    /// The tool's line, run by a shell after some words of its own.
+    pub fn say_after(&self, words: &str, line: &str) -> Run {
         let tool = env!("CARGO_BIN_EXE_burst");
-        let script = format!("trap '' XFSZ; ulimit -f {blocks}; exec '{tool}' {line}");
+        let mut command = Shell::command(&format!("{words}; exec '{tool}' {line}"));
+        Run::of(command.current_dir(&self.0).output().unwrap())
+    }
+
+    /// The rights of a file or folder below this one.
+    pub fn mode(&self, name: &str) -> u32 {
+        let found = fs::symlink_metadata(self.0.join(name)).unwrap();
+        found.permissions().mode() & 0o7777
+    }
+
+    pub fn set_mode(&self, name: &str, mode: u32) {
+        let rights = fs::Permissions::from_mode(mode);
+        fs::set_permissions(self.0.join(name), rights).unwrap();
+    }
+}
+
+/// A shell that waits for a line on its standard input before it runs a script.
+pub struct Shell(Child);
+
+impl Shell {
+    pub fn command(script: &str) -> Command {
         let mut command = Command::new("sh");
-        command.args(["-c", &script]).current_dir(&self.0);
-        Run::of(command.output().unwrap())
+        command.args(["-c", script]).stdin(Stdio::null());
+        command
+    }
+
+    pub fn waiting(script: &str) -> Self {
+        let mut command = Shell::command(&format!("read line; {script}"));
+        // A process that has ended already takes no signal.
+        command.stdin(Stdio::piped()).stderr(Stdio::null());
+        Shell(command.spawn().unwrap())
+    }
+
+    /// Runs the script to its end.
+    pub fn go(&mut self) {
+        self.0.stdin.take().unwrap().write_all(b"\n").unwrap();
+        self.0.wait().unwrap();
     }
 }
 

@@ -1,9 +1,13 @@
 //! The built tool, run in a temporary folder.
 
+mod dashes;
 mod explain;
 mod folder;
+mod interrupted;
+mod names;
 mod outputs;
 mod refusals;
+mod rights;
 mod round_trip;
 mod secrets;
 mod usage;

@@ -2,7 +2,7 @@
 
 use crate::folder::{picture, Folder, STAMP, WORKED};
 use std::fs;
-use std::os::unix::fs::symlink;
+use std::os::unix::fs::{symlink, MetadataExt};
 
 const FETCH: &str = "fetch --key key --place 0 --out picture 7.burst";
 
@@ -103,8 +103,8 @@ fn a_missing_folder_is_74() {
             "cannot make no/all: ",
         ),
         (
-            "fetch --key key --all fox 7.burst".into(),
-            "cannot make fox: ",
+            "fetch --key key --all fox/all 7.burst".into(),
+            "cannot look at fox/all: ",
         ),
     ] {
         let status = if line.contains("..") { 73 } else { 74 };
@@ -196,7 +196,61 @@ fn all_pictures_go_to_a_new_or_an_empty_folder() {
     assert_eq!(folder.names("empty"), pictures);
     folder
         .say(&empty("/."))
-        .failed(73, &["the folder empty/. is not empty"]);
+        .failed(73, &["the folder empty is not empty"]);
+}
+
+/// What is not a folder stays as it is, also by force.
+#[test]
+fn all_pictures_to_what_is_not_a_folder_is_73() {
+    let folder = Folder::new();
+    symlink("nowhere", folder.path().join("link")).unwrap();
+    symlink("fox", folder.path().join("to-fox")).unwrap();
+    for name in ["fox", "fox/", "link", "to-fox"] {
+        for force in ["", " --force"] {
+            let line = format!("fetch --key key --all {name}{force} 7.burst");
+            let words = format!(
+                "{} is there and is not a folder",
+                name.trim_end_matches('/')
+            );
+            folder.say(&line).failed(73, &[&words]);
+        }
+    }
+    assert_eq!(folder.get("fox"), b"fox");
+    assert_eq!(
+        folder.names("."),
+        ["7.burst", "fox", "key", "link", "to-fox"]
+    );
+}
+
+/// A link to a folder, and the folder that one stands in, take pictures as they
+/// are.
+#[test]
+fn a_folder_that_is_there_stays_the_one_it_is() {
+    let folder = three();
+    let pictures = ["shot-001", "shot-003", "shot-004"];
+    let inode = |name: &str| fs::metadata(folder.path().join(name)).unwrap().ino();
+    fs::create_dir(folder.path().join("empty")).unwrap();
+    symlink("empty", folder.path().join("link")).unwrap();
+    let before = inode("empty");
+    folder.say(&ALL.replace("--all all", "--all link")).done();
+    assert_eq!(
+        (folder.names("empty"), inode("empty")),
+        (pictures.map(String::from).to_vec(), before)
+    );
+
+    fs::create_dir(folder.path().join("here")).unwrap();
+    let line = "fetch --key ../key --all . ../7.burst".split(' ');
+    let mut command = folder.command(&line.collect::<Vec<_>>());
+    let before = inode("here");
+    let output = command
+        .current_dir(folder.path().join("here"))
+        .output()
+        .unwrap();
+    crate::folder::Run::of(output).done();
+    assert_eq!(
+        (folder.names("here"), inode("here")),
+        (pictures.map(String::from).to_vec(), before)
+    );
 }
 
 /// A picture would replace the last of these only; the others would stay beside
