@@ -154,15 +154,15 @@ fn broken_header(header: &Header, length: u64) -> impl Iterator<Item = Broken> {
         unlike(2, "picture offset", h.picture_offset, HEADER_BYTES, ""),
         (taken > MAX_SHOTS as u64).then_some(too_many),
         unlike(3, "taken", taken, sum, ", kept and dropped together"),
-        unlike(7, "closing offset", closing, index_end, ", the index's end"),
+        unlike(4, "closing offset", closing, index_end, ", the index's end"),
         unlike(
-            8,
+            5,
             "total length",
             h.total,
             seal_end,
             ", the closing seal's end",
         ),
-        unlike(8, "total length", h.total, length, file_length),
+        unlike(5, "total length", h.total, length, file_length),
     ];
     rules.into_iter().flatten()
 }
@@ -178,19 +178,19 @@ fn broken_index(header: &Header, entries: &[Entry]) -> Option<Broken> {
         (shot_before, end) = (entry.shot, entry.end());
     }
     let index = header.index_offset;
-    unlike(6, "index offset", index, end, ", the records' end")
+    unlike(8, "index offset", index, end, ", the records' end")
 }
 
 fn broken_entry(entry: &Entry, shot_before: u64, taken: u64, offset: u64) -> Option<Broken> {
     let shot = entry.shot;
     if shot <= shot_before || shot > taken {
         let words = format!("shot {shot} after shot {shot_before}, with {taken} shots taken");
-        return Some((4, words));
+        return Some((6, words));
     }
     let length = entry.length;
     if length < 1 || length > MAX_PICTURE_BYTES as u64 {
-        return Some((5, format!("the picture length is {length}")));
+        return Some((7, format!("the picture length is {length}")));
     }
-    let zero = unlike(5, "the zero field", entry.zero, 0, "");
-    zero.or_else(|| unlike(6, "the record offset", entry.offset, offset, ""))
+    let zero = unlike(7, "the zero field", entry.zero, 0, "");
+    zero.or_else(|| unlike(8, "the record offset", entry.offset, offset, ""))
 }

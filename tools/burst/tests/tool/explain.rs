@@ -68,43 +68,43 @@ const BROKEN: [(usize, u8, &str); 13] = [
     (
         24,
         80,
-        "rule 7: closing offset is 80, and must be 79, the index's end",
+        "rule 4: closing offset is 80, and must be 79, the index's end",
     ),
     (
         28,
         110,
-        "rule 8: total length is 110, and must be 111, the closing seal's end",
+        "rule 5: total length is 110, and must be 111, the closing seal's end",
     ),
     (
         28,
         110,
-        "rule 8: total length is 110, and must be 111, the file's length",
+        "rule 5: total length is 110, and must be 111, the file's length",
     ),
     (
         67,
         4,
-        "rule 4: at place 0: shot 4 after shot 0, with 3 shots taken",
+        "rule 6: at place 0: shot 4 after shot 0, with 3 shots taken",
     ),
     (
         67,
         0,
-        "rule 4: at place 0: shot 0 after shot 0, with 3 shots taken",
+        "rule 6: at place 0: shot 0 after shot 0, with 3 shots taken",
     ),
     (
         69,
         1,
-        "rule 5: at place 0: the zero field is 1, and must be 0",
+        "rule 7: at place 0: the zero field is 1, and must be 0",
     ),
-    (75, 0, "rule 5: at place 0: the picture length is 0"),
+    (75, 0, "rule 7: at place 0: the picture length is 0"),
     (
         71,
         33,
-        "rule 6: at place 0: the record offset is 33, and must be 32",
+        "rule 8: at place 0: the record offset is 33, and must be 32",
     ),
     (
         75,
         2,
-        "rule 6: index offset is 67, and must be 66, the records' end",
+        "rule 8: index offset is 67, and must be 66, the records' end",
     ),
 ];
 
