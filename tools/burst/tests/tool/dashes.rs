@@ -164,3 +164,22 @@ fn files_and_folders_that_are_called_a_dash_have_another_name() {
     folder.say("fetch --key key --all ./- 7.burst").done();
     assert_eq!(folder.names("-"), ["shot-002"]);
 }
+
+/// The far end of a terminal counts as one, too.
+#[test]
+fn a_terminal_gets_no_file() {
+    let folder = Folder::new();
+    let mut open = fs::OpenOptions::new();
+    let Ok(terminal) = open.read(true).write(true).open("/dev/ptmx") else {
+        return println!("no terminal can be made here");
+    };
+    for line in [
+        "fetch --key key --place 0 --out - 7.burst",
+        "record --key key --number 7 --site-mark x --out - --drop",
+    ] {
+        let mut command = folder.command(&line.split(' ').collect::<Vec<_>>());
+        command.stdout(terminal.try_clone().unwrap());
+        let run = Run::of(command.stderr(Stdio::piped()).output().unwrap());
+        run.failed(73, &["standard output is a terminal"]);
+    }
+}

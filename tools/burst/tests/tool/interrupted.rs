@@ -34,17 +34,15 @@ fn many() -> Folder {
 /// What stands in the folder of `many` when nothing was written.
 const NOTHING_NEW: [&str; 5] = ["7.burst", "fox", "key", "large", "many.burst"];
 
-fn is_hidden(name: &String) -> bool {
-    name.starts_with(".burst-")
-}
-
 /// The hidden files and folders of a run, in the folder and in `all`.
 fn hidden(folder: &Folder) -> Vec<PathBuf> {
     let below = [".", "all"].into_iter();
     let there = below.filter(|below| folder.path().join(below).is_dir());
     let paths = there.flat_map(|below| {
-        let names = folder.names(below).into_iter().filter(is_hidden);
-        names.map(move |name| folder.path().join(below).join(name))
+        let mut names = folder.names(below);
+        names.retain(|name| name.starts_with(".burst-"));
+        let path = |name| folder.path().join(below).join(name);
+        names.into_iter().map(path).collect::<Vec<_>>()
     });
     paths.collect()
 }
