@@ -11,8 +11,9 @@ use std::process::{Child, ExitStatus, Stdio};
 use std::thread::sleep;
 use std::time::Duration;
 
-/// The signals that are tried, by name and number.
-const SIGNALS: [(&str, i32); 4] = [("INT", 2), ("TERM", 15), ("HUP", 1), ("QUIT", 3)];
+/// The signals that are tried, by name and number. QUIT is not among them: it may
+/// leave a core file.
+const SIGNALS: [(&str, i32); 4] = [("INT", 2), ("TERM", 15), ("HUP", 1), ("USR1", 10)];
 
 /// When the signal comes, after the first hidden name shows: in milliseconds.
 const MOMENTS: [u64; 5] = [0, 1, 5, 20, 80];
