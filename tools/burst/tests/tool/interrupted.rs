@@ -15,6 +15,16 @@ use std::time::Duration;
 /// leave a core file.
 const SIGNALS: [(&str, i32); 4] = [("INT", 2), ("TERM", 15), ("HUP", 1), ("USR1", 10)];
 
+/// Those of them that the tests, and so the tool, were not started to ignore, as
+/// a shell has it for INT in the background, and nohup for HUP.
+fn signals() -> Vec<(&'static str, i32)> {
+    let status = fs::read_to_string("/proc/self/status").unwrap();
+    let line = status.lines().find_map(|line| line.strip_prefix("SigIgn:"));
+    let ignored = u64::from_str_radix(line.unwrap().trim(), 16).unwrap();
+    let is_heard = |(_, number): &(&str, i32)| ignored >> (number - 1) & 1 == 0;
+    SIGNALS.into_iter().filter(is_heard).collect()
+}
+
 /// When the signal comes, after the first hidden name shows: in milliseconds.
 const MOMENTS: [u64; 5] = [0, 1, 5, 20, 80];
 
@@ -87,7 +97,7 @@ fn check_all(folder: &Folder) {
 fn try_signals(folder: &Folder, line: &str, before: impl Fn(), nothing: impl Fn()) {
     let all = folder.path().join("all");
     let mut taken_back = 0;
-    for (signal, number) in SIGNALS {
+    for (signal, number) in signals() {
         for moment in MOMENTS {
             let _ = fs::remove_dir_all(&all);
             before();
@@ -167,7 +177,7 @@ fn one_file_is_whole_or_not_there() {
     let fetch = "fetch --key key --place 3 --out out many.burst";
     let mut taken_back = 0;
     for (line, whole) in [(record.as_str(), &burst), (fetch, &picture)] {
-        for (signal, number) in SIGNALS.repeat(3) {
+        for (signal, number) in signals().repeat(3) {
             let status = interrupt(&folder, line, signal, 0);
             assert_eq!(hidden(&folder), Vec::<PathBuf>::new(), "{signal}");
             match folder.path().join("out").exists() {
@@ -282,7 +292,7 @@ fn a_closed_standard_output_leaves_all_pictures() {
 #[test]
 fn a_run_that_waits_for_input_ends_at_once() {
     let folder = Folder::new();
-    for (signal, number) in SIGNALS {
+    for (signal, number) in signals() {
         for line in [
             "record --key key --number 7 --site-mark x --out out --keep x fox --keep x -",
             "fetch --key key --all all -",
