@@ -36,8 +36,9 @@ Output files:
   and rights of the old one; where they cannot be kept, it is for its owner alone.
   Other new files follow the umask.
   Until they are complete, they have hidden names, .burst-NUMBER-NUMBER, and only you
-  can read them. A KILL or a power cut may leave such a file or folder: it may hold
-  pictures, so remove it. `burst fetch --help` says where it stands.
+  can read them. A KILL or a power cut may leave such a file or folder beside the
+  output (for --all see `burst fetch --help`): it may hold pictures, so remove it. It
+  does not stop the next run.
 
 Exit status:
   0   done

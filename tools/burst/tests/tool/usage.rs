@@ -127,9 +127,21 @@ fn help_names_every_command_and_status() {
 }
 
 #[test]
-fn help_tells_of_empty_marks_and_of_folders() {
+fn help_tells_what_a_user_may_trip_over() {
     let folder = Folder::new();
     for (line, words) in [
+        ("--help", "head -c 16 /dev/urandom > camera.key"),
+        ("--help", "`chmod 600 camera.key`"),
+        ("--help", "A dash in place of a file is standard input"),
+        ("--help", "A file that is called - is ./-"),
+        ("--help", "whole or not at all, also where INT, TERM or HUP"),
+        ("--help", "hidden names, .burst-NUMBER-NUMBER"),
+        ("--help", "rights of the old one"),
+        (
+            "fetch --help",
+            "A KILL or a power cut may leave the hidden folder",
+        ),
+        ("fetch --help", "DIRECTORY is there and is not a folder"),
         ("--help", "the folder of --all is not empty (see --force)"),
         ("record --help", "text of 1 to 16 bytes"),
         ("record --help", "Empty text"),
