@@ -5,15 +5,22 @@
 use std::ffi::{c_char, c_int, c_uint, c_void, CStr, CString};
 use std::fs::{self, File};
 use std::io;
+use std::ops::RangeInclusive;
 use std::os::fd::AsRawFd;
 use std::os::unix::ffi::OsStrExt;
 use std::path::Path;
 use std::ptr::null;
 use std::sync::OnceLock;
 
-/// The signals from outside that end a program: HUP, INT, QUIT, USR1, USR2,
-/// ALRM, TERM, XCPU, VTALRM and PROF.
-const ENDING: [c_int; 10] = [1, 2, 3, 10, 12, 14, 15, 24, 26, 27];
+/// The signals from outside that end a program: HUP, INT, QUIT, ABRT, USR1, USR2,
+/// ALRM, TERM, STKFLT, XCPU, VTALRM, PROF, IO and PWR, and the real-time signals.
+///
+/// Not among them: KILL, which nothing holds; PIPE and XFSZ, which are ignored;
+/// ILL, TRAP, BUS, FPE, SEGV and SYS, which tell of a fault, after which no more
+/// code of the program is to run; 32 and 33, which the C library keeps for
+/// itself. `abort` lets ABRT through by itself.
+const ENDING: [c_int; 14] = [1, 2, 3, 6, 10, 12, 14, 15, 16, 24, 26, 27, 29, 30];
+const REAL_TIME: RangeInclusive<c_int> = 34..=64;
 /// A file has grown beyond the limit of the process.
 const SIGXFSZ: c_int = 25;
 
@@ -27,7 +34,7 @@ const SIG_IGN: usize = 1;
 const SIG_BLOCK: c_int = 0;
 const SIG_SETMASK: c_int = 2;
 
-/// `sigset_t`: signal n is bit n - 1.
+/// `sigset_t`: signal n is bit n - 1, so that all 64 are in the first word.
 #[repr(C)]
 #[derive(Clone, Copy, Default)]
 struct SignalSet([u64; 16]);
@@ -108,9 +115,9 @@ pub struct Held {
 
 impl Held {
     pub fn new() -> Self {
-        let bit = |signal: &c_int| 1 << (signal - 1);
-        let ending = ENDING.iter().filter(|signal| !is_ignored(**signal));
-        let signals: u64 = ending.map(bit).sum();
+        let ending = ENDING.into_iter().chain(REAL_TIME);
+        let heard = ending.filter(|signal| !is_ignored(*signal));
+        let signals: u64 = heard.map(|signal| 1 << (signal - 1)).sum();
         let mut set = SignalSet::default();
         set.0[0] = signals;
         let before = change_blocked(SIG_BLOCK, set);

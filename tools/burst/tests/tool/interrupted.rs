@@ -4,6 +4,7 @@
 use crate::folder::{picture, Folder, Run, Shell};
 use std::fs;
 use std::io::Write;
+use std::ops::RangeInclusive;
 use std::os::unix::fs::PermissionsExt;
 use std::os::unix::process::ExitStatusExt;
 use std::path::PathBuf;
@@ -11,18 +12,28 @@ use std::process::{Child, ExitStatus, Stdio};
 use std::thread::sleep;
 use std::time::Duration;
 
-/// The signals that are tried, by name and number. QUIT is not among them: it may
-/// leave a core file.
+/// The signals that are tried at many moments, by name and number.
 const SIGNALS: [(&str, i32); 4] = [("INT", 2), ("TERM", 15), ("HUP", 1), ("USR1", 10)];
 
-/// Those of them that the tests, and so the tool, were not started to ignore, as
-/// a shell has it for INT in the background, and nohup for HUP.
-fn signals() -> Vec<(&'static str, i32)> {
+/// The signals from outside that end a program: HUP, INT, QUIT, ABRT, USR1, USR2,
+/// ALRM, TERM, STKFLT, XCPU, VTALRM, PROF, IO and PWR, and the real-time signals.
+/// KILL cannot be held, PIPE and XFSZ are ignored, ILL, TRAP, BUS, FPE, SEGV and
+/// SYS tell of a fault, and 32 and 33 are the C library's own.
+const ENDING: [i32; 14] = [1, 2, 3, 6, 10, 12, 14, 15, 16, 24, 26, 27, 29, 30];
+const REAL_TIME: RangeInclusive<i32> = 34..=64;
+
+/// The tests, and so the tool, were not started to ignore the signal, as a shell
+/// has it for INT in the background, and nohup for HUP.
+fn is_heard(number: i32) -> bool {
     let status = fs::read_to_string("/proc/self/status").unwrap();
     let line = status.lines().find_map(|line| line.strip_prefix("SigIgn:"));
     let ignored = u64::from_str_radix(line.unwrap().trim(), 16).unwrap();
-    let is_heard = |(_, number): &(&str, i32)| ignored >> (number - 1) & 1 == 0;
-    SIGNALS.into_iter().filter(is_heard).collect()
+    ignored >> (number - 1) & 1 == 0
+}
+
+fn signals() -> Vec<(&'static str, i32)> {
+    let heard = SIGNALS.into_iter().filter(|(_, number)| is_heard(*number));
+    heard.collect()
 }
 
 /// When the signal comes, after the first hidden name shows: in milliseconds.
@@ -63,11 +74,18 @@ fn wait_for_hidden(folder: &Folder, tool: &mut Child) {
     while hidden(folder).is_empty() && tool.try_wait().unwrap().is_none() {}
 }
 
-/// Starts the tool, and sends the signal some time after it has written
-/// something hidden.
+/// Starts the tool by a shell, after some words of its own.
+fn start(folder: &Folder, words: &str, line: &str) -> Child {
+    let tool = env!("CARGO_BIN_EXE_burst");
+    let mut shell = Shell::command(&format!("{words}; exec '{tool}' {line}"));
+    shell.current_dir(folder.path()).stdout(Stdio::null());
+    shell.spawn().unwrap()
+}
+
+/// Starts the tool, and sends the signal, by name or number, some time after it
+/// has written something hidden.
 fn interrupt(folder: &Folder, line: &str, signal: &str, moment: u64) -> ExitStatus {
-    let mut command = folder.command(&line.split(' ').collect::<Vec<_>>());
-    let mut tool = command.stdout(Stdio::null()).spawn().unwrap();
+    let mut tool = start(folder, "ulimit -c 0", line);
     // The shell is there already when the moment comes, so that little time
     // is lost.
     let mut sender = Shell::waiting(&format!("kill -{signal} {}", tool.id()));
@@ -90,6 +108,12 @@ fn check_all(folder: &Folder) {
     assert_eq!(hidden(folder), Vec::<PathBuf>::new());
 }
 
+/// The run is done, or the signal has ended it.
+fn check_end(status: ExitStatus, number: i32) {
+    let ended = status.signal() == Some(number);
+    assert!(status.success() || ended, "signal {number}: {status}");
+}
+
 /// Sends every signal at every moment to the line, which fetches all. Each time
 /// `before` makes the folder ready. If the signal ends the run, the folder is
 /// as `nothing` wants it, or whole, where it came at the very end. At least one
@@ -102,12 +126,8 @@ fn try_signals(folder: &Folder, line: &str, before: impl Fn(), nothing: impl Fn(
             let _ = fs::remove_dir_all(&all);
             before();
             let status = interrupt(folder, line, signal, moment);
-            let ended = (status.code(), status.signal());
-            assert!(
-                ended == (Some(0), None) || ended == (None, Some(number)),
-                "{signal}: {status}"
-            );
-            if ended.0 == Some(0) || (all.is_dir() && count_fetched(folder) > 0) {
+            check_end(status, number);
+            if status.success() || (all.is_dir() && count_fetched(folder) > 0) {
                 check_all(folder);
                 continue;
             }
@@ -163,6 +183,25 @@ fn files_of_a_folder_that_is_not_empty_stay() {
     };
     try_signals(&folder, &format!("{ALL} --force"), before, nothing);
     assert_eq!(hidden(&folder), Vec::<PathBuf>::new());
+}
+
+/// A signal that comes too late is sent to another run.
+#[test]
+fn every_signal_that_ends_a_program_leaves_nothing() {
+    let folder = many();
+    let all = folder.path().join("all");
+    for number in ENDING.into_iter().chain(REAL_TIME) {
+        let in_time = !is_heard(number)
+            || (0..10).any(|_| {
+                let _ = fs::remove_dir_all(&all);
+                let status = interrupt(&folder, ALL, &number.to_string(), 0);
+                check_end(status, number);
+                assert_eq!(hidden(&folder), Vec::<PathBuf>::new(), "signal {number}");
+                !all.exists()
+            });
+        assert!(in_time, "every signal {number} came too late");
+        assert_eq!(folder.names("."), NOTHING_NEW, "signal {number}");
+    }
 }
 
 /// The signal may come too late; the file is whole then.
@@ -223,13 +262,7 @@ fn what_is_hidden_is_for_the_owner_alone() {
 #[test]
 fn an_ignored_signal_is_ignored() {
     let folder = many();
-    let tool = env!("CARGO_BIN_EXE_burst");
-    let mut shell = Shell::command(&format!("trap '' HUP; exec '{tool}' {ALL}"));
-    let mut tool = shell
-        .current_dir(folder.path())
-        .stdout(Stdio::null())
-        .spawn()
-        .unwrap();
+    let mut tool = start(&folder, "trap '' HUP", ALL);
     let mut sender = Shell::waiting(&format!("kill -HUP {}", tool.id()));
     wait_for_hidden(&folder, &mut tool);
     sender.go();
