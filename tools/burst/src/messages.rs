@@ -37,6 +37,8 @@ pub enum Failure {
         folder: PathBuf,
         left: Option<PathBuf>,
     },
+    /// Somebody else has made the folder of --all, which was not there.
+    Meanwhile(PathBuf),
     /// A file was to go to a terminal.
     Terminal,
     /// A file could not be read, written or named. The name is as it is shown.
@@ -82,6 +84,7 @@ impl Failure {
             | Failure::NotAFile(_)
             | Failure::NotAFolder(_)
             | Failure::NotEmpty { .. }
+            | Failure::Meanwhile(_)
             | Failure::Terminal => OUTPUT_THERE,
             Failure::File { .. } | Failure::Print(_) | Failure::Cut(_) | Failure::Interrupted => {
                 FILE
@@ -106,6 +109,9 @@ impl Failure {
             }
             Failure::NotEmpty { folder, .. } => {
                 format!("the folder {} is not empty", show::path(folder))
+            }
+            Failure::Meanwhile(folder) => {
+                format!("somebody else has made {} meanwhile", show::path(folder))
             }
             Failure::Terminal => "standard output is a terminal; it gets no file".into(),
             Failure::File { doing, name, error } => format!("cannot {doing} {name}: {error}"),
@@ -142,6 +148,9 @@ impl Failure {
                  pictures: remove it. Files replaced-.. in it stood in the folder before.",
                 show::path(left)
             ),
+            Failure::Meanwhile(_) => {
+                "Give the command again, and it writes into that folder.".into()
+            }
             Failure::Terminal => "Send it to a file or a pipe, or name a file.".into(),
             Failure::File { .. } => {
                 "Look at the name, the rights and the room there. No output file was written."

@@ -160,8 +160,10 @@ impl Folder {
     /// Gives the pictures their places. From the last look at the signals on,
     /// all are placed before one of these ends the program.
     pub fn place(mut self) -> Result<(), Failure> {
-        if !self.is_new && !self.force {
-            test_empty(&self.folder, self.hidden.file_name())?;
+        match (self.is_new, self.force) {
+            (true, _) if !is_new(&self.folder)? => return Err(self.made_meanwhile()),
+            (false, false) => test_empty(&self.folder, self.hidden.file_name())?,
+            _ => (),
         }
         for picture in &self.pictures {
             let target = self.target(&picture.name);
@@ -187,15 +189,24 @@ impl Folder {
         let failed = |error| Failure::file("make", &self.folder, error);
         sync(&self.hidden);
         rights::give_new_folder(&self.hidden).map_err(failed)?;
-        fs::rename(&self.hidden, &self.folder).map_err(|error| match error.kind() {
-            // Somebody else has made it meanwhile.
-            ErrorKind::DirectoryNotEmpty | ErrorKind::AlreadyExists => {
-                let folder = self.folder.clone();
-                Failure::NotEmpty { folder, left: None }
+        rename_new(&self.hidden, &self.folder).map_err(|error| match error.kind() {
+            ErrorKind::AlreadyExists | ErrorKind::DirectoryNotEmpty | ErrorKind::NotADirectory => {
+                self.made_meanwhile()
             }
-            ErrorKind::NotADirectory => Failure::NotAFolder(self.folder.clone()),
             _ => failed(error),
         })
+    }
+
+    /// Somebody else has made meanwhile what has the name of the new folder.
+    fn made_meanwhile(&self) -> Failure {
+        let found = is_new(&self.folder).and_then(|_| match self.force {
+            true => Ok(()),
+            false => test_empty(&self.folder, None),
+        });
+        match found {
+            Err(failure) => failure,
+            Ok(()) => Failure::Meanwhile(self.folder.clone()),
+        }
     }
 
     /// Into a folder that is there the pictures go one after the other.

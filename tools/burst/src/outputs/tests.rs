@@ -7,7 +7,7 @@ use crate::messages::Failure;
 use crate::system::{access_list, rename_new, set_access_list};
 use std::fs::{self, File, Permissions};
 use std::io::ErrorKind;
-use std::os::unix::fs::PermissionsExt;
+use std::os::unix::fs::{MetadataExt, PermissionsExt};
 use std::path::{Path, PathBuf};
 
 /// A folder of its own, by name.
@@ -101,6 +101,22 @@ fn a_file_that_has_the_name_of_a_new_folder_meanwhile_stays() {
     assert!(matches!(outputs.place(), Err(Failure::NotAFolder(_))));
     assert_eq!(names(&above), ["all"]);
     assert_eq!(fs::read(above.join("all")).unwrap(), b"other");
+    fs::remove_dir_all(&above).unwrap();
+}
+
+#[test]
+fn an_empty_folder_that_has_the_name_of_a_new_one_meanwhile_stays() {
+    let above = folder("empty");
+    let all = above.join("all");
+    let outputs = written(&all, false, &["a"]);
+    fs::create_dir(&all).unwrap();
+    let inode = || fs::metadata(&all).unwrap().ino();
+    let before = inode();
+    // The rename itself finds it, and the last look before it.
+    assert!(matches!(outputs.rename(), Err(Failure::Meanwhile(_))));
+    assert!(matches!(outputs.place(), Err(Failure::Meanwhile(_))));
+    assert_eq!(names(&above), ["all"]);
+    assert_eq!((names(&all), inode()), (vec![], before));
     fs::remove_dir_all(&above).unwrap();
 }
 
