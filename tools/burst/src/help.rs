@@ -31,14 +31,16 @@ Keys:
   name. Keep it readable for yourself alone: `chmod 600 camera.key`.
 
 Output files:
-  They are written whole or not at all, also where INT, TERM or HUP ends the command,
-  and no file is replaced without --force. With --force the new file has owner, group
-  and rights of the old one; where they cannot be kept, it is for its owner alone.
-  Other new files follow the umask.
+  They are written whole or not at all, also where INT, TERM, HUP or another signal
+  ends the command, and no file is replaced without --force. With --force the new file
+  has owner, group and rights of the old one; where they cannot be kept, it is for its
+  owner alone. Other new files follow the umask.
   Until they are complete, they have hidden names, .burst-NUMBER-NUMBER, and only you
-  can read them. A KILL or a power cut may leave such a file or folder beside the
-  output (for --all see `burst fetch --help`): it may hold pictures, so remove it. It
-  does not stop the next run.
+  can read them. A signal that ends the command does so after they are placed or
+  removed; KILL, the signals of a fault (ILL, TRAP, BUS, FPE, SEGV, SYS), 32 and 33 do
+  not wait. These or a power cut may leave such a file or folder beside the output (for
+  --all see `burst fetch --help`): it may hold pictures, so remove it. It does not stop
+  the next run. If the command itself cannot remove it, it says so and names it.
 
 Exit status:
   0   done
@@ -130,12 +132,14 @@ Checks a whole burst file as `burst check` does, and only then writes pictures.
 A new DIRECTORY is written under a hidden name beside it, .burst-NUMBER-NUMBER, and
 renamed when all pictures are there. Into one that is there already they are moved from
 a hidden folder of such a name in it, one right after the other, and files that they
-replace are kept in the hidden folder until all are moved. INT, TERM and HUP leave
-nothing of this. A KILL or a power cut may leave the hidden folder, and then some of the
-pictures may stand in a DIRECTORY that was there already. The hidden folder may hold
-pictures, so remove it; files named replaced-shot-NUMBER in it are those that stood in
-DIRECTORY before. Beside a new DIRECTORY it stops no later fetch; in a DIRECTORY it does,
-with 73 and its name.
+replace are kept in the hidden folder until all are moved. INT, TERM, HUP and other
+signals that end the command leave nothing of this.
+A KILL or a power cut may leave the hidden folder, and then some of the pictures may
+stand in a DIRECTORY that was there already; so may the other signals that do not wait
+(see `burst --help`), and a failure to remove it, which is told with its name. The hidden
+folder may hold pictures, so remove it; files named replaced-shot-NUMBER in it are those
+that stood in DIRECTORY before. Beside a new DIRECTORY it stops no later fetch; in a
+DIRECTORY it does, with 73 and its name.
 
 It shows shot number, place, length and stamp of each picture. Exit status as of
 `burst check`, and 13 if there is no picture at that place, 73 if DIRECTORY is not

@@ -4,6 +4,7 @@
 use crate::show;
 use std::io::{self, ErrorKind, Write};
 use std::path::{Path, PathBuf};
+use std::sync::atomic::{AtomicBool, Ordering};
 
 pub const USAGE: u8 = 64;
 pub const TOO_LONG: u8 = 65;
@@ -32,7 +33,7 @@ pub enum Failure {
     /// Something that is not a folder has the name of the folder of --all.
     NotAFolder(PathBuf),
     /// A folder for all pictures has files, and --force was not given. One of
-    /// them may be what a run left that was killed.
+    /// them may be what a run left that was killed or could not remove it.
     NotEmpty {
         folder: PathBuf,
         left: Option<PathBuf>,
@@ -93,7 +94,7 @@ impl Failure {
     }
 
     /// What is wrong.
-    fn problem(&self) -> String {
+    pub fn problem(&self) -> String {
         match self {
             Failure::Usage { problem, .. } => problem.clone(),
             Failure::Refused { number, about, .. } => {
@@ -144,8 +145,9 @@ impl Failure {
             Failure::NotEmpty {
                 left: Some(left), ..
             } => format!(
-                "Unless another fetch runs now, one that was killed has left {}, which may hold \
-                 pictures: remove it. Files replaced-.. in it stood in the folder before.",
+                "Unless another fetch runs now, one that could not clean up or was killed has left \
+                 {}, which may hold pictures: remove it. Files replaced-.. in it stood in the \
+                 folder before.",
                 show::path(left)
             ),
             Failure::Meanwhile(_) => {
@@ -153,12 +155,15 @@ impl Failure {
             }
             Failure::Terminal => "Send it to a file or a pipe, or name a file.".into(),
             Failure::File { .. } => {
-                "Look at the name, the rights and the room there. No output file was written."
-                    .into()
+                let outputs = match LEFT.load(Ordering::Relaxed) {
+                    true => "What is left is named above.",
+                    false => "No output file was written.",
+                };
+                format!("Look at the name, the rights and the room there. {outputs}")
             }
             Failure::Print(_) => "Output files, where they were asked for, are written.".into(),
             Failure::Cut(_) => "What went there is not whole: do not use it.".into(),
-            Failure::Interrupted => "No output file was written.".into(),
+            Failure::Interrupted => "Give the command again.".into(),
         }
     }
 }
@@ -208,6 +213,24 @@ fn advice(number: u32) -> &'static str {
         13 => "Places count kept pictures from 0; they are not shot numbers. `burst explain FILE` shows both.",
         _ => "This is a fault of the tool. Please report it, with the command that you gave.",
     }
+}
+
+/// Something of the outputs is left, and `tell_left` has told it.
+static LEFT: AtomicBool = AtomicBool::new(false);
+
+/// Writes to standard error what could not be removed or put back, if anything.
+/// This is no failure of the command: either all is placed, or another failure
+/// follows, or a signal ends the program.
+pub fn tell_left(left: &[Failure]) {
+    if left.is_empty() {
+        return;
+    }
+    LEFT.store(true, Ordering::Relaxed);
+    let line = |failure: &Failure| format!("burst: {}\n", failure.problem());
+    let lines: String = left.iter().map(line).collect();
+    let advice = "What is left may hold pictures: remove it, but look for files replaced-.. in it \
+                  first, which stood in the folder before.";
+    let _ = io::stderr().write_all(format!("{lines}  {advice}\n").as_bytes());
 }
 
 /// Writes the failure to standard error. Where that cannot be written either,

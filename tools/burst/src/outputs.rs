@@ -1,7 +1,7 @@
 //! Output files that are written whole or not at all: under hidden names first,
 //! readable by their owner alone, while signals that end a program wait.
 
-use crate::messages::Failure;
+use crate::messages::{tell_left, Failure};
 use crate::rights;
 use crate::system::{rename_new, Held};
 use std::ffi::{OsStr, OsString};
@@ -70,12 +70,18 @@ impl OneFile {
         sync(folder_of(&self.target));
         Ok(())
     }
+
+    /// Removes the hidden file, and gives what is left of it.
+    fn take_back(&self) -> Vec<Failure> {
+        let removed = removed(&self.hidden, fs::remove_file(&self.hidden));
+        removed.err().into_iter().collect()
+    }
 }
 
 impl Drop for OneFile {
     fn drop(&mut self) {
         if !self.placed {
-            let _ = fs::remove_file(&self.hidden);
+            tell_left(&self.take_back());
         }
     }
 }
@@ -93,6 +99,7 @@ pub struct Folder {
     is_new: bool,
     hidden: PathBuf,
     pictures: Vec<Picture>,
+    placed: bool,
     /// Dropped last, after all is placed or taken back.
     held: Held,
 }
@@ -129,6 +136,7 @@ impl Folder {
             is_new,
             hidden,
             pictures: Vec::new(),
+            placed: false,
             held,
         })
     }
@@ -178,7 +186,8 @@ impl Folder {
             true => self.rename()?,
             false => self.move_in()?,
         }
-        self.pictures.clear();
+        self.placed = true;
+        tell_left(&self.clean_up());
         sync(&self.folder);
         sync(folder_of(&self.folder));
         Ok(())
@@ -218,21 +227,42 @@ impl Folder {
             let target = self.folder.join(&picture.name);
             picture.place(&target, &self.hidden, self.force)?;
         }
-        for picture in self.pictures.iter().filter(|picture| picture.replaced) {
-            let _ = fs::remove_file(picture.aside(&self.hidden));
-        }
-        let _ = fs::remove_dir(&self.hidden);
         Ok(())
+    }
+
+    /// After all are placed: removes the files that were replaced and the hidden
+    /// folder, and gives what is left of them.
+    fn clean_up(&self) -> Vec<Failure> {
+        let replaced = self.pictures.iter().filter(|picture| picture.replaced);
+        let aside = replaced.map(|picture| picture.aside(&self.hidden));
+        let mut left: Vec<Failure> = aside
+            .filter_map(|path| removed(&path, fs::remove_file(&path)).err())
+            .collect();
+        left.extend(self.remove_hidden().err());
+        left
+    }
+
+    /// Takes everything back, and gives what is left of it.
+    fn take_back(&self) -> Vec<Failure> {
+        let pictures = self.pictures.iter().rev();
+        let mut left: Vec<Failure> = pictures
+            .flat_map(|picture| picture.take_back(&self.target(&picture.name), &self.hidden))
+            .collect();
+        left.extend(self.remove_hidden().err());
+        left
+    }
+
+    /// A new folder that is placed has no hidden one any more.
+    fn remove_hidden(&self) -> Result<(), Failure> {
+        removed(&self.hidden, fs::remove_dir(&self.hidden))
     }
 }
 
 impl Drop for Folder {
-    /// What cannot be removed stays: there is already a failure to tell.
     fn drop(&mut self) {
-        for picture in self.pictures.iter().rev() {
-            picture.take_back(&self.folder.join(&picture.name), &self.hidden);
+        if !self.placed {
+            tell_left(&self.take_back());
         }
-        let _ = fs::remove_dir(&self.hidden);
     }
 }
 
@@ -253,14 +283,27 @@ impl Picture {
         Ok(())
     }
 
-    fn take_back(&self, target: &Path, hidden: &Path) {
-        let _ = match self.placed {
-            true => fs::remove_file(target),
-            false => fs::remove_file(hidden.join(&self.name)),
+    /// Gives what is left of the picture, and of the file that it has replaced.
+    fn take_back(&self, target: &Path, hidden: &Path) -> Vec<Failure> {
+        let own = match self.placed {
+            true => target.into(),
+            false => hidden.join(&self.name),
         };
-        if self.replaced {
-            let _ = fs::rename(self.aside(hidden), target);
-        }
+        let taken = removed(&own, fs::remove_file(&own));
+        let put_back = match self.replaced {
+            true => fs::rename(self.aside(hidden), target),
+            false => Ok(()),
+        };
+        let put_back = put_back.map_err(|error| Failure::file("put back", target, error));
+        taken.err().into_iter().chain(put_back.err()).collect()
+    }
+}
+
+/// How a file or folder was removed; one that was gone already is no failure.
+fn removed(path: &Path, result: io::Result<()>) -> Result<(), Failure> {
+    match result {
+        Err(error) if error.kind() == ErrorKind::NotFound => Ok(()),
+        result => result.map_err(|error| Failure::file("remove", path, error)),
     }
 }
 

@@ -68,6 +68,85 @@ fn replaced_files_come_back() {
     fs::remove_dir_all(&folder).unwrap();
 }
 
+/// The texts of what is left, in which the last part of each path stands alone.
+fn texts(left: Vec<Failure>, folder: &Path) -> Vec<String> {
+    let front = format!("{}/", folder.display());
+    let text = |failure: Failure| failure.problem().replace(&front, "");
+    left.into_iter().map(text).collect()
+}
+
+/// Two of three are placed, one of them in place of an earlier file, and then
+/// folders of their names stand in the way.
+#[test]
+fn what_cannot_be_taken_back_is_named() {
+    let folder = folder("left");
+    fs::write(folder.join("a"), "earlier").unwrap();
+    let mut outputs = written(&folder, true, &["a", "b", "c"]);
+    fs::remove_file(outputs.hidden.join("c")).unwrap();
+    assert!(outputs.move_in().is_err());
+    for name in ["a", "b"] {
+        fs::remove_file(folder.join(name)).unwrap();
+        fs::create_dir(folder.join(name)).unwrap();
+    }
+    let hidden = outputs.hidden.file_name().unwrap().to_owned();
+    let hidden = hidden.to_str().unwrap();
+    let is_folder = "Is a directory (os error 21)";
+    let expected = [
+        format!("cannot remove b: {is_folder}"),
+        format!("cannot remove a: {is_folder}"),
+        format!("cannot put back a: {is_folder}"),
+        format!("cannot remove {hidden}: Directory not empty (os error 39)"),
+    ];
+    assert_eq!(texts(outputs.take_back(), &folder), expected);
+    // It is not to be told again.
+    outputs.placed = true;
+    drop(outputs);
+    assert_eq!(names(&folder), [hidden, "a", "b"]);
+    let kept = folder.join(hidden).join("replaced-a");
+    assert_eq!(fs::read(kept).unwrap(), b"earlier");
+    fs::remove_dir_all(&folder).unwrap();
+}
+
+#[test]
+fn a_replaced_file_that_cannot_be_removed_is_named() {
+    let folder = folder("aside");
+    fs::write(folder.join("a"), "earlier").unwrap();
+    let mut outputs = written(&folder, true, &["a"]);
+    assert!(outputs.move_in().is_ok());
+    let aside = outputs.pictures[0].aside(&outputs.hidden);
+    fs::remove_file(&aside).unwrap();
+    fs::create_dir(&aside).unwrap();
+    let left = texts(outputs.clean_up(), &outputs.hidden);
+    assert_eq!(
+        left[0],
+        "cannot remove replaced-a: Is a directory (os error 21)"
+    );
+    assert!(left[1].ends_with("Directory not empty (os error 39)"));
+    assert_eq!(left.len(), 2);
+    outputs.placed = true;
+    drop(outputs);
+    fs::remove_dir_all(&folder).unwrap();
+}
+
+#[test]
+fn a_hidden_file_that_cannot_be_removed_is_named() {
+    let folder = folder("one");
+    let mut one = OneFile::write(&folder.join("a"), b"new", false)
+        .ok()
+        .unwrap();
+    fs::remove_file(&one.hidden).unwrap();
+    // One that is gone already is no failure.
+    assert!(one.take_back().is_empty());
+    fs::create_dir(&one.hidden).unwrap();
+    let left = texts(one.take_back(), &folder);
+    let hidden = one.hidden.file_name().unwrap().to_str().unwrap();
+    let expected = format!("cannot remove {hidden}: Is a directory (os error 21)");
+    assert_eq!(left, [expected]);
+    one.placed = true;
+    drop(one);
+    fs::remove_dir_all(&folder).unwrap();
+}
+
 /// So that of two runs into one folder, each of which found it empty, one at
 /// least is refused.
 #[test]

@@ -41,10 +41,10 @@ const MOMENTS: [u64; 5] = [0, 1, 5, 20, 80];
 
 const KEPT: usize = 40;
 const PICTURE_BYTES: usize = 250_000;
-const ALL: &str = "fetch --key key --all all many.burst";
+pub const ALL: &str = "fetch --key key --all all many.burst";
 
 /// A folder with a burst of many pictures, which takes a while to fetch.
-fn many() -> Folder {
+pub fn many() -> Folder {
     let folder = Folder::new();
     folder.put("large", &picture(PICTURE_BYTES, 1));
     folder.record(&["--keep", "x", "large"].repeat(KEPT)).done();
@@ -54,10 +54,10 @@ fn many() -> Folder {
 }
 
 /// What stands in the folder of `many` when nothing was written.
-const NOTHING_NEW: [&str; 5] = ["7.burst", "fox", "key", "large", "many.burst"];
+pub const NOTHING_NEW: [&str; 5] = ["7.burst", "fox", "key", "large", "many.burst"];
 
 /// The hidden files and folders of a run, in the folder and in `all`.
-fn hidden(folder: &Folder) -> Vec<PathBuf> {
+pub fn hidden(folder: &Folder) -> Vec<PathBuf> {
     let below = [".", "all"].into_iter();
     let there = below.filter(|below| folder.path().join(below).is_dir());
     let paths = there.flat_map(|below| {
@@ -103,7 +103,7 @@ fn count_fetched(folder: &Folder) -> usize {
 }
 
 /// Every picture is there and right, and nothing hidden.
-fn check_all(folder: &Folder) {
+pub fn check_all(folder: &Folder) {
     assert_eq!(count_fetched(folder), KEPT);
     assert_eq!(hidden(folder), Vec::<PathBuf>::new());
 }
@@ -233,21 +233,27 @@ fn one_file_is_whole_or_not_there() {
     assert!(taken_back > 0, "every signal came too late");
 }
 
-/// The run is stopped in the middle, and then killed.
-#[test]
-fn what_is_hidden_is_for_the_owner_alone() {
-    let folder = many();
+/// A run that fetches all, stopped with some pictures in its hidden folder.
+pub fn stopped(folder: &Folder) -> Child {
     let mut command = folder.command(&ALL.split(' ').collect::<Vec<_>>());
-    let mut tool = command.stdout(Stdio::null()).spawn().unwrap();
+    command.stdout(Stdio::piped()).stderr(Stdio::piped());
+    let mut tool = command.spawn().unwrap();
     let mut sender = Shell::waiting(&format!("kill -STOP {}", tool.id()));
     let files = |path: &PathBuf| fs::read_dir(path).map_or(0, |entries| entries.count());
-    while hidden(&folder).first().map_or(0, files) == 0 {
+    while hidden(folder).first().map_or(0, files) == 0 {
         assert!(
             tool.try_wait().unwrap().is_none(),
             "nothing hidden was seen"
         );
     }
     sender.go();
+    tool
+}
+
+#[test]
+fn what_is_hidden_is_for_the_owner_alone() {
+    let folder = many();
+    let mut tool = stopped(&folder);
     let hidden = hidden(&folder);
     let mode = |path: &PathBuf| fs::metadata(path).unwrap().permissions().mode() & 0o777;
     assert_eq!(hidden.iter().map(mode).collect::<Vec<_>>(), [0o700]);

@@ -4,6 +4,7 @@ mod dashes;
 mod explain;
 mod folder;
 mod interrupted;
+mod left;
 mod names;
 mod outputs;
 mod refusals;

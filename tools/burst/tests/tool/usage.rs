@@ -134,12 +134,24 @@ fn help_tells_what_a_user_may_trip_over() {
         ("--help", "`chmod 600 camera.key`"),
         ("--help", "A dash in place of a file is standard input"),
         ("--help", "A file that is called - is ./-"),
-        ("--help", "whole or not at all, also where INT, TERM or HUP"),
+        (
+            "--help",
+            "whole or not at all, also where INT, TERM, HUP or",
+        ),
+        (
+            "--help",
+            "KILL, the signals of a fault (ILL, TRAP, BUS, FPE, SEGV, SYS), 32 and 33",
+        ),
+        ("--help", "cannot remove it, it says so and names it"),
         ("--help", "hidden names, .burst-NUMBER-NUMBER"),
         ("--help", "rights of the old one"),
         (
             "fetch --help",
             "A KILL or a power cut may leave the hidden folder",
+        ),
+        (
+            "fetch --help",
+            "a failure to remove it, which is told with its name",
         ),
         ("fetch --help", "DIRECTORY is there and is not a folder"),
         ("--help", "the folder of --all is not empty (see --force)"),
