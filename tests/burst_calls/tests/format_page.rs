@@ -1,13 +1,19 @@
-//! The proved recorder writes the worked file of docs/FORMAT.md, the proved
-//! reader reads it and refuses its damaged copies as the page says, and the
-//! proved lister prints the page's texts.
+//! The proved recorder writes the worked files of docs/FORMAT.md from the
+//! page's lists of calls, the proved reader reads them and refuses damaged
+//! copies and fronts without seals as the page says, and the proved lister
+//! prints the page's texts.
 
 use burst_calls::lent::Lent;
 use burst_calls::listing::{check_rooms, check_text, LIST_BYTES};
-use burst_calls::reading::check_refused;
+use burst_calls::reading::{
+    check_check, check_fetch, check_record, check_refused, CHECK_INFO, FETCH_INFO,
+};
+use burst_calls::recording::Recording;
+use burst_calls::script::script_of;
 use burst_calls::{check, fetch, list_front, record, replay};
 use reference::burst::reader::RecordPart;
-use reference::page::{self, damaged_copies, worked_file};
+use reference::burst::Call;
+use reference::page::{self, damaged_copies, worked_file, Recorded};
 
 fn counting(from: u8, length: u8) -> Vec<u8> {
     (0..length).map(|i| from + i).collect()
@@ -28,6 +34,91 @@ fn recorded() {
     let given = replay(&key(), 7, &site_mark, &script, &mut buffer, &mut answers);
     assert_eq!(given, (5, 1));
     assert_eq!(buffer, worked_file());
+}
+
+/// The list has the page's answers, and leaves this file in its buffer, which
+/// is exactly as long.
+fn check_recorded(recorded: &Recorded, name: &str) {
+    let Some((
+        Call::Begin {
+            key,
+            burst_number,
+            site_mark,
+        },
+        calls,
+    )) = recorded.calls.split_first()
+    else {
+        panic!("no begin");
+    };
+    let recording = Recording {
+        key: key.clone(),
+        burst_number: *burst_number,
+        site_mark: site_mark.clone(),
+        script: script_of(calls),
+        buffer: vec![0xA5; recorded.buffer_len],
+        answers: vec![0xA5; 8 * recorded.calls.len()],
+    };
+    let performed = recording.check(&|| name.into());
+    assert!(performed.whole, "{name}");
+    assert_eq!(performed.answers, recorded.answers, "{name}");
+    assert_eq!(performed.buffer, page::bytes(name), "{name}");
+}
+
+#[test]
+fn recorded_lists() {
+    check_recorded(&page::second_list(), "second file");
+    check_recorded(&page::third_list(), "third file");
+}
+
+/// Stamp, shot number, length and picture, and the sealed part, at each place
+/// of the second file.
+#[test]
+fn kept_pictures() {
+    let file = page::bytes("second file");
+    for kept in page::kept_pictures() {
+        let (mut out, mut info) = (Lent::of(200), [0; 22]);
+        let given = fetch(&key(), &file, kept.place, out.slice(), &mut info);
+        assert_eq!(given, (0, 0), "{kept:?}");
+        out.check_written(&kept.picture, &|| format!("{kept:?}"));
+        assert_eq!(info[..2], kept.shot.to_le_bytes());
+        assert_eq!(info[2..6], (kept.picture.len() as u32).to_le_bytes());
+        assert_eq!(info[6..], kept.stamp);
+        let part = RecordPart {
+            number: 0,
+            mark: 0,
+            offset: kept.offset,
+            length: kept.length,
+        };
+        assert_eq!(record(&key(), &file, kept.place), part, "{kept:?}");
+    }
+}
+
+/// Numbers and marks of the table of calls.
+#[test]
+fn readings() {
+    for reading in page::readings() {
+        let (key, file, place) = (&reading.key[..], &reading.file[..], reading.place);
+        let what = || format!("{reading:?}");
+        let checked = check_check(key, file, CHECK_INFO, &what);
+        let fetched = check_fetch(key, file, place, (reading.room, FETCH_INFO), &what);
+        let recorded = check_record(key, file, place, &what);
+        let given = [checked, fetched, recorded];
+        assert_eq!(given, [reading.check, reading.fetch, reading.record]);
+    }
+}
+
+/// Numbers and last lines of the table of fronts.
+#[test]
+fn fronts() {
+    for row in page::fronts() {
+        let refused = check_refused(&key(), &row.file, &|| row.what.clone());
+        assert_eq!(refused, (row.number, 0), "{}", row.what);
+        let mut text = [0; LIST_BYTES];
+        let (number, length) = list_front(&row.file, &mut text);
+        let lines = std::str::from_utf8(&text[..length as usize]).unwrap();
+        let last = lines.lines().last();
+        assert_eq!((number, last), (0, Some(&row.line[..])), "{}", row.what);
+    }
 }
 
 /// Burst number, site mark and counts; stamp, shot number and length; the
@@ -85,23 +176,23 @@ fn damaged() {
         let first = lines.lines().next();
         assert_eq!((number, first), (0, Some(&copy.line[..])), "{copy:?}");
     }
-    let mut two = worked_file();
-    (two[48], two[110]) = (two[48] ^ 1, two[110] ^ 1);
     let longer = [worked_file(), vec![0]].concat();
-    for (file, refused) in [
-        (&two[..], (7, 0)),
-        (&worked_file()[..110], (12, 0)),
-        (&longer, (12, 0)),
-    ] {
+    for file in [&worked_file()[..110], &longer] {
         let given = check_refused(&key(), file, &|| "beside the table".into());
-        assert_eq!(given, refused);
+        assert_eq!(given, (12, 0));
     }
 }
 
 #[test]
 fn listed() {
     let what = || "a text of the page".into();
-    check_rooms(&worked_file(), &page::text("listing"), &what);
+    for (file, text) in [
+        ("file", "listing"),
+        ("second file", "second listing"),
+        ("third file", "third listing"),
+    ] {
+        check_rooms(&page::bytes(file), &page::text(text), &what);
+    }
     check_rooms(&[], &page::text("broken"), &what);
     let mut long = worked_file();
     long.resize(65_536, 0);

@@ -10,21 +10,24 @@ fn counting(from: u8, length: u8) -> Vec<u8> {
 
 #[test]
 fn vectors() {
-    for (name, msg) in [
-        ("empty", vec![]),
-        ("three bytes", b"fox".to_vec()),
-        ("130 bytes", counting(0x00, 130)),
-    ] {
+    let mut vectors: Vec<(&str, u8, Vec<u8>, Vec<u8>)> = Vec::new();
+    for (name, associated, message) in page::VECTORS {
+        let message = page::run_of(message);
+        vectors.push((name, associated, message, page::bytes(name)));
+    }
+    let before_tag = &page::bytes("130 bytes")[..144];
+    let one_block = [before_tag, &page::bytes("tag of 128 bytes")].concat();
+    vectors.push(("128 bytes", 12, counting(0x00, 128), one_block));
+    for (name, associated, msg, vector) in vectors {
         let case = Case {
             variant: Variant::Icepole128,
             key: counting(0x00, 16),
             nonce: counting(0x10, 16),
             secret: counting(0x20, 16),
-            ad1: counting(0x30, 12),
+            ad1: counting(0x30, associated),
             ad2: vec![],
             msg,
         };
-        let vector = page::bytes(name);
         let mut sealed = vec![0; case.msg.len() + 32];
         assert_eq!((case.seal(&mut sealed), &sealed), (0, &vector), "{name}");
         let (mut out, mut info) = (vec![0; case.msg.len()], vec![0; 24]);

@@ -1,6 +1,7 @@
-//! What docs/FORMAT.md shows is what the documents say: its worked file, what
-//! is read from that and from damaged copies, its listings, its vectors, its
-//! tables of the permutation, and the order of its front rules.
+//! What docs/FORMAT.md shows is what the documents say: its worked files and
+//! how they are recorded, what is read from them, from damaged copies and from
+//! fronts without seals, its listings, its vectors, its tables of the
+//! permutation, and the order of its front rules.
 
 use std::collections::BTreeSet;
 
@@ -11,7 +12,7 @@ use reference::burst::lister::{list, LONGEST_LISTED};
 use reference::burst::plain::{run, Call};
 use reference::burst::reader::{check, fetch, front, record, Checked, Fetched, RecordPart};
 use reference::burst::Refusal;
-use reference::page::{self, damaged_copies, worked_file, Damaged};
+use reference::page::{self, damaged_copies, worked_file, Damaged, FrontRow, Reading, Recorded};
 use reference::permutation::{
     bits, words, State, OFFSETS, ROUND_CONSTANTS, STARTING_WORDS, ZERO_STATE,
 };
@@ -31,14 +32,21 @@ fn key() -> Vec<u8> {
 fn no_other_blocks() {
     let held = [
         "hex file",
+        "hex second file",
+        "hex third file",
         "hex empty",
         "hex three bytes",
         "hex 130 bytes",
+        "hex tag of 128 bytes",
+        "hex associated data of 128 bytes",
+        "hex associated data of 140 bytes",
         "words starting words",
         "words constants",
         "words P6 of zero",
         "numbers offsets",
         "text listing",
+        "text second listing",
+        "text third listing",
         "text too long",
         "text broken",
     ];
@@ -46,6 +54,20 @@ fn no_other_blocks() {
     assert_eq!(named.len(), held.len());
     let named: BTreeSet<&str> = named.iter().map(|name| &name[..]).collect();
     assert_eq!(named, BTreeSet::from(held));
+}
+
+/// So does every table of the examples.
+#[test]
+fn no_other_tables() {
+    let held = [
+        "Damaged copies of it",
+        "The second file",
+        "Calls on it",
+        "Recording it",
+        "The third file",
+        "Fronts",
+    ];
+    assert_eq!(page::tables(), held);
 }
 
 // ---- the worked file
@@ -144,7 +166,7 @@ fn refusal_of(file: &[u8]) -> (u32, u32) {
 #[test]
 fn every_damaged_copy() {
     let copies = damaged_copies();
-    assert_eq!(copies.len(), 13);
+    assert_eq!(copies.len(), 16);
     for copy in copies {
         let Damaged { number, mark, .. } = copy;
         let file = copy.file();
@@ -161,13 +183,94 @@ fn every_damaged_copy() {
 
 #[test]
 fn damage_beside_the_table() {
-    let mut two = worked_file();
-    (two[48], two[110]) = (two[48] ^ 1, two[110] ^ 1);
-    assert_eq!(refusal_of(&two), (7, 0));
     assert_eq!(refusal_of(&worked_file()[..110]), (12, 0));
     assert_eq!(refusal_of(&[worked_file(), vec![0]].concat()), (12, 0));
     let other_key = check(&counting(0x01, 16), &worked_file());
     assert_eq!(other_key, Err(Refusal { number: 7, mark: 0 }));
+}
+
+// ---- the second and the third file
+
+fn check_recorded(recorded: &Recorded, name: &str) {
+    let outcome = run(&recorded.calls, recorded.buffer_len);
+    assert_eq!(outcome.answers, recorded.answers, "{name}");
+    assert_eq!(outcome.file, Some(page::bytes(name)), "{name}");
+}
+
+#[test]
+fn recorded() {
+    check_recorded(&page::second_list(), "second file");
+    check_recorded(&page::third_list(), "third file");
+}
+
+/// What check, fetch and record answer, in full.
+#[test]
+fn second_file_is_read() {
+    let file = page::bytes("second file");
+    assert_eq!(file.len(), 330);
+    let checked = Checked {
+        burst_number: u64::MAX,
+        site_mark: counting(0xE0, 16)[..].try_into().unwrap(),
+        taken: 4,
+        kept: 3,
+        dropped: 1,
+    };
+    assert_eq!(check(&key(), &file), Ok(checked));
+    let kept = page::kept_pictures();
+    assert_eq!(kept.len(), 3);
+    for (at, kept) in kept.into_iter().enumerate() {
+        let length = kept.picture.len();
+        let fetched = Fetched {
+            stamp: kept.stamp[..].try_into().unwrap(),
+            shot: kept.shot.into(),
+            length: length as u64,
+            picture: kept.picture,
+        };
+        assert_eq!(kept.place, at);
+        assert_eq!(fetch(&key(), &file, at as u64, length), Ok(fetched));
+        let part = RecordPart {
+            number: 0,
+            mark: 0,
+            offset: kept.offset,
+            length: kept.length,
+        };
+        assert_eq!(record(&key(), &file, at as u64), part);
+    }
+}
+
+fn pair<T>(answer: Result<T, Refusal>) -> (u32, u32) {
+    answer.map_or_else(|refusal| (refusal.number, refusal.mark), |_| (0, 0))
+}
+
+#[test]
+fn every_call_of_the_table() {
+    let readings = page::readings();
+    assert_eq!(readings.len(), 13);
+    for reading in readings {
+        let Reading { key, file, .. } = &reading;
+        let place = reading.place as u64;
+        assert_eq!(pair(check(key, file)), reading.check, "{reading:?}");
+        let fetched = fetch(key, file, place, reading.room);
+        assert_eq!(pair(fetched), reading.fetch, "{reading:?}");
+        let part = record(key, file, place);
+        assert_eq!((part.number, part.mark), reading.record, "{reading:?}");
+    }
+}
+
+// ---- fronts without seals
+
+#[test]
+fn every_front() {
+    let fronts = page::fronts();
+    assert_eq!(fronts.len(), 19);
+    for row in fronts {
+        let FrontRow {
+            file, number, what, ..
+        } = &row;
+        assert_eq!(check_rules(file, what), *number == 7, "{what}");
+        assert_eq!(refusal_of(file), (*number, 0), "{what}");
+        assert_eq!(list(file).lines().last(), Some(&row.line[..]), "{what}");
+    }
 }
 
 // ---- listings
@@ -176,6 +279,10 @@ fn damage_beside_the_table() {
 fn listings() {
     let listing = page::text("listing");
     assert_eq!((list(&worked_file()), listing.len()), (listing, 55));
+    for name in ["second", "third"] {
+        let file = page::bytes(&format!("{name} file"));
+        assert_eq!(list(&file), page::text(&format!("{name} listing")));
+    }
     for length in [0, 63, 64, LONGEST_LISTED] {
         assert_eq!(list(&vec![0; length]), page::text("broken"), "{length}");
     }
@@ -361,24 +468,32 @@ fn tables_of_the_permutation() {
     }
 }
 
+fn sealed(associated: u8, message: &[u8]) -> Vec<u8> {
+    let sealed = seal(
+        Variant::Icepole128,
+        &key(),
+        &counting(0x10, 16),
+        &counting(0x20, 16),
+        &counting(0x30, associated),
+        &[],
+        message,
+        message.len() + 32,
+    );
+    sealed.unwrap()
+}
+
 #[test]
 fn vectors_of_sealing() {
-    let long = counting(0x00, 130);
-    for (name, message) in [
-        ("empty", &b""[..]),
-        ("three bytes", b"fox"),
-        ("130 bytes", &long),
-    ] {
-        let sealed = seal(
-            Variant::Icepole128,
-            &key(),
-            &counting(0x10, 16),
-            &counting(0x20, 16),
-            &counting(0x30, 12),
-            &[],
-            message,
-            message.len() + 32,
-        );
-        assert_eq!(sealed, Ok(page::bytes(name)), "{name}");
+    for (name, associated, message) in page::VECTORS {
+        let message = page::run_of(message);
+        assert_eq!(sealed(associated, &message), page::bytes(name), "{name}");
     }
+}
+
+/// Given by its tag: the rest is that of a longer message.
+#[test]
+fn vector_of_one_block() {
+    let sealed = sealed(12, &counting(0x00, 128));
+    assert_eq!(sealed[..144], page::bytes("130 bytes")[..144]);
+    assert_eq!(sealed[144..], page::bytes("tag of 128 bytes"));
 }
