@@ -36,19 +36,16 @@ fn recorded() {
     assert_eq!(buffer, worked_file());
 }
 
-/// The list has the page's answers, and leaves this file in its buffer, which
-/// is exactly as long.
-fn check_recorded(recorded: &Recorded, name: &str) {
-    let Some((
-        Call::Begin {
-            key,
-            burst_number,
-            site_mark,
-        },
-        calls,
-    )) = recorded.calls.split_first()
+/// The list has the page's answers. Gives the buffer.
+fn check_recorded(recorded: &Recorded, what: &str) -> Vec<u8> {
+    let (first, calls) = recorded.calls.split_first().unwrap();
+    let Call::Begin {
+        key,
+        burst_number,
+        site_mark,
+    } = first
     else {
-        panic!("no begin");
+        panic!("no begin, {what}");
     };
     let recording = Recording {
         key: key.clone(),
@@ -58,16 +55,29 @@ fn check_recorded(recorded: &Recorded, name: &str) {
         buffer: vec![0xA5; recorded.buffer_len],
         answers: vec![0xA5; 8 * recorded.calls.len()],
     };
-    let performed = recording.check(&|| name.into());
-    assert!(performed.whole, "{name}");
-    assert_eq!(performed.answers, recorded.answers, "{name}");
-    assert_eq!(performed.buffer, page::bytes(name), "{name}");
+    let performed = recording.check(&|| what.into());
+    assert!(performed.whole, "{what}");
+    assert_eq!(performed.answers, recorded.answers, "{what}");
+    performed.buffer
+}
+
+/// The buffers are exactly as long as the files.
+#[test]
+fn recorded_lists() {
+    for (recorded, name) in [
+        (page::second_list(), "second file"),
+        (page::third_list(), "third file"),
+    ] {
+        let buffer = check_recorded(&recorded, name);
+        assert_eq!(buffer, page::bytes(name), "{name}");
+    }
 }
 
 #[test]
-fn recorded_lists() {
-    check_recorded(&page::second_list(), "second file");
-    check_recorded(&page::third_list(), "third file");
+fn begun() {
+    for recorded in page::begins() {
+        check_recorded(&recorded, "begin");
+    }
 }
 
 /// Stamp, shot number, length and picture, and the sealed part, at each place

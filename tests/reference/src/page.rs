@@ -266,9 +266,9 @@ fn recorded(heading: &str, begin: Call, buffer_len: usize) -> Recorded {
     }
 }
 
-fn begin(burst_number: u64, site_mark: &str) -> Call {
+fn begin(key: &str, burst_number: u64, site_mark: &str) -> Call {
     Call::Begin {
-        key: run_of("00 .. 0F"),
+        key: run_of(key),
         burst_number,
         site_mark: run_of(site_mark),
     }
@@ -278,7 +278,7 @@ fn begin(burst_number: u64, site_mark: &str) -> Call {
 pub fn second_list() -> Recorded {
     assert!(says("\nBurst number 2^64 - 1, site mark E0 .. EF, and "));
     assert!(says("\nIn a buffer of 330 bytes this list of calls makes "));
-    recorded("Recording it", begin(u64::MAX, "E0 .. EF"), 330)
+    recorded("Recording it", begin("00 .. 0F", u64::MAX, "E0 .. EF"), 330)
 }
 
 /// The list that makes the third file.
@@ -286,7 +286,20 @@ pub fn third_list() -> Recorded {
     assert!(says(
         "\nBurst number 0, site mark 10 .. 1F, in a buffer of 64 bytes:"
     ));
-    recorded("The third file", begin(0, "10 .. 1F"), 64)
+    recorded("The third file", begin("00 .. 0F", 0, "10 .. 1F"), 64)
+}
+
+/// The rows of the table of begins, each with a drop and a close after it.
+pub fn begins() -> Vec<Recorded> {
+    let row = |[key, site_mark, buffer_len, number, _]: [&str; 5]| Recorded {
+        calls: vec![begin(key, 0, site_mark), Call::Drop, Call::Close],
+        answers: match decimal(number) {
+            0 => [0, 1, 64].map(Answer::accepted).to_vec(),
+            number => [number, 8, 8].map(Answer::refused).to_vec(),
+        },
+        buffer_len: decimal(buffer_len),
+    };
+    rows("Begins").into_iter().map(row).collect()
 }
 
 /// A row of the table of fronts: a file without seals, check's number, and the

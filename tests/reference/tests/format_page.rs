@@ -65,6 +65,7 @@ fn no_other_tables() {
         "Calls on it",
         "Recording it",
         "The third file",
+        "Begins",
         "Fronts",
     ];
     assert_eq!(page::tables(), held);
@@ -201,6 +202,20 @@ fn check_recorded(recorded: &Recorded, name: &str) {
 fn recorded() {
     check_recorded(&page::second_list(), "second file");
     check_recorded(&page::third_list(), "third file");
+}
+
+#[test]
+fn begun() {
+    let begins = page::begins();
+    assert_eq!(begins.len(), 4);
+    for Recorded {
+        calls,
+        answers,
+        buffer_len,
+    } in begins
+    {
+        assert_eq!(run(&calls, buffer_len).answers, answers, "{calls:?}");
+    }
 }
 
 /// What check, fetch and record answer, in full.
