@@ -120,6 +120,41 @@ fn broken_rules_are_named() {
     }
 }
 
+/// The front rules of docs/FORMAT.md by their numbers, from 1 on.
+fn rules_of_the_page() -> Vec<String> {
+    let path = concat!(env!("CARGO_MANIFEST_DIR"), "/../../docs/FORMAT.md");
+    let page = std::fs::read_to_string(path).unwrap();
+    let (_, section) = page.split_once("\n## Front rules\n").unwrap();
+    let (section, _) = section.split_once("\n## ").unwrap();
+    let mut rules: Vec<String> = Vec::new();
+    for line in section.lines() {
+        let next = format!("{}. ", rules.len() + 1);
+        match (line.strip_prefix(&next), rules.last_mut()) {
+            (Some(rule), _) => rules.push(rule.to_lowercase()),
+            (None, Some(rule)) => *rule += &line.to_lowercase(),
+            (None, None) => {}
+        }
+    }
+    rules
+}
+
+/// What the tool calls broken stands on the page under the same number.
+#[test]
+fn rules_have_the_numbers_of_the_page() {
+    let rules = rules_of_the_page();
+    assert_eq!(rules.len(), 8);
+    assert!(rules[0].contains("at least 64 bytes"));
+    for (_, _, words) in BROKEN {
+        let (rule, words) = words.split_once(": ").unwrap();
+        let number: usize = rule.strip_prefix("rule ").unwrap().parse().unwrap();
+        let words = words.strip_prefix("at place 0: ").unwrap_or(words);
+        let words = words.strip_prefix("the ").unwrap_or(words);
+        let end = words.find(" is ").or(words.find(' ')).unwrap();
+        let rule = &rules[number - 1];
+        assert!(rule.contains(&words[..end]), "{number} {}", &words[..end]);
+    }
+}
+
 /// It has shown already what the other commands send the reader to it for.
 #[test]
 fn explain_does_not_advise_to_run_explain() {
