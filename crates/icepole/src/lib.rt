@@ -729,7 +729,7 @@ pub fn open_number(
 
 // All of opening but the message: the answer, where fits says whether what is lent is long enough for it. Where its number is 0, the state after the associated
 // data is left in state.
-fn open_front(
+fn open_verified(
     v: Variant,
     key: &[u8],
     nonce: &[u8],
@@ -782,7 +782,7 @@ pub fn verify(
     ensures { λ r. ⌜ r ≡ openAnswer v (now (key .entry)) (now (nonce .entry)) (now (first .entry) ++ now (second .entry)) (now (sealed .entry)) true ⌝ }
 {
     let mut state = [[0u64; 5]; 4];
-    open_front(v, key, nonce, first, second, sealed, true, &mut state)
+    open_verified(v, key, nonce, first, second, sealed, true, &mut state)
 }
 
 // Opening. The message is written only after the tag was found to agree.
@@ -803,7 +803,7 @@ pub fn open_message(
     let q = sizes_of(v);
     let fits = message_fits(q, sealed.len(), out.len());
     let mut state = [[0u64; 5]; 4];
-    let r = open_front(v, key, nonce, first, second, sealed, fits, &mut state);
+    let r = open_verified(v, key, nonce, first, second, sealed, fits, &mut state);
     if r.refusal != 0 {
         return r;
     }

@@ -1,4 +1,4 @@
--- `icepole::open_message` meets its contract: by the answer of `open_front`; where its number is 0, the message is written.
+-- `icepole::open_message` meets its contract: by the answer of `open_verified`; where its number is 0, the message is written.
 -- Assumes nothing.
 use mathlib.Core.Path.{ap}
 use mathlib.Core.List.{_++_}
@@ -29,7 +29,7 @@ returns c =
     let q = f .before .before .before .sizes-of in
     let a = f .before .before .before .before .before .before .before .before .before .before .args in
     let e = answer-by (a .v) _ (q .ensures) (a .key .now) (a .nonce .now) (a .first .now ++ a .second .now) (a .sealed .now) (a .out .now) _ (m .ensures)
-    _ (f .open-front .ensures .0) in
+    _ (f .open-verified .ensures .0) in
     (e, open-stays (a .v) (a .key .now) (a .nonce .now) (a .first .now ++ a .second .now) (a .sealed .now) (fitsOutput (a .v) (a .sealed .now) (a .out .now)) _ e (c .if1 .taken) (a .out .now))
 
 decrypt-message-requires : tie.Need-decrypt-message-requires
@@ -39,7 +39,7 @@ decrypt-message-requires c κs =
     let q = f .before .before .before .sizes-of in
     let a = f .before .before .before .before .before .before .before .before .before .before .args in
     let e = answer-by (a .v) _ (q .ensures) (a .key .now) (a .nonce .now) (a .first .now ++ a .second .now) (a .sealed .now) (a .out .now) _ (m .ensures)
-    _ (f .open-front .ensures .0) in
+    _ (f .open-verified .ensures .0) in
     let z = c .before .before .if1 .left in
     let w = open-tells (a .v) (a .key .now) (a .nonce .now) (a .first .now ++ a .second .now) (a .sealed .now) (fitsOutput (a .v) (a .sealed .now) (a .out .now)) _ e z in
     let g = open-given (a .v) (a .key .now) (a .nonce .now) (a .first .now ++ a .second .now) (a .sealed .now) (fitsOutput (a .v) (a .sealed .now) (a .out .now)) _ e z in
@@ -56,13 +56,13 @@ returns-2 c =
     let q = f .before .before .before .sizes-of in
     let a = f .before .before .before .before .before .before .before .before .before .before .args in
     let e = answer-by (a .v) _ (q .ensures) (a .key .now) (a .nonce .now) (a .first .now ++ a .second .now) (a .sealed .now) (a .out .now) _ (m .ensures)
-    _ (f .open-front .ensures .0) in
+    _ (f .open-verified .ensures .0) in
     let z = c .before .before .before .before .before .if1 .left in
     let g = open-given (a .v) (a .key .now) (a .nonce .now) (a .first .now ++ a .second .now) (a .sealed .now) (fitsOutput (a .v) (a .sealed .now) (a .out .now)) _ e z in
     let l = ap (λ (r : Opened). r .length) g in (
       e,
       open-written (a .v) (a .key .now) (a .nonce .now) (a .first .now ++ a .second .now) (a .sealed .now) (fitsOutput (a .v) (a .sealed .now) (a .out .now)) _ e z (a .out .now) _
-          (message-by (a .v) _ (q .ensures) (bounds (f .before .before .before)) _ _ _ _ _ (a .out .now) _ _ (f .open-front .ensures .1 z) l (c .before .before .decrypt-message .ensures)),
+          (message-by (a .v) _ (q .ensures) (bounds (f .before .before .before)) _ _ _ _ _ (a .out .now) _ _ (f .open-verified .ensures .1 z) l (c .before .before .decrypt-message .ensures)),
     )
 
 pub open-message-spec : {M : Type 1} → statement M

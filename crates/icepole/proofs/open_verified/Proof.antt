@@ -1,4 +1,4 @@
--- `icepole::open_front` meets its contract: a number that is not 0 is the answer; else the tag decides.
+-- `icepole::open_verified` meets its contract: a number that is not 0 is the answer; else the tag decides.
 -- Assumes nothing.
 use mathlib.Core.Path.{refl, sym, ap, _∙_}
 use mathlib.Core.List.{_++_}
@@ -11,8 +11,8 @@ use Rattle.icepole.proofs.Answers.{not-opened, open-differs, open-done,
 use Rattle.icepole.proofs.Bounds.{bounded-by}
 use Rattle.icepole.proofs.Numbers.{open-fits}
 use Rattle.icepole.proofs.Whole.{agrees-by}
-use Rattle.icepole.proofs.open_front.Statement.{statement}
-use Rattle.icepole.proofs.open_front.Tie as tie
+use Rattle.icepole.proofs.open_verified.Statement.{statement}
+use Rattle.icepole.proofs.open_verified.Tie as tie
 
 bounds : (p : tie.After-sizes-of) → Bounded (p .sizes-of .result)
 bounds p = bounded-by (p .before .before .before .before .before .before .args .v) _ (p .sizes-of .ensures)
@@ -75,8 +75,8 @@ returns-3 c =
       λ z. absurd (not-opened 7 (λ e. omega arith) _ (c .refused2 .ensures) z),
     )
 
-pub open-front-spec : {M : Type 1} → statement M
-open-front-spec =
+pub open-verified-spec : {M : Type 1} → statement M
+open-verified-spec =
     tie.close
     (tie.spec
     (λ c κs. search needs)
