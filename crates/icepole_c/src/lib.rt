@@ -28,6 +28,9 @@ fn seal_call(
     icepole::seal(v, key, nonce, secret, first, second, message, out).refusal
 }
 
+// Where the secret number stands in what opening puts into info, behind the message's length.
+const SECRET_AT: usize = 8;
+
 fn open_call(
     v: Variant,
     key: &[u8],
@@ -43,7 +46,7 @@ fn open_call(
 {
     let q = icepole::sizes_of(v);
     let n = q.secret;
-    if info.len() < 8 + n {
+    if info.len() < SECRET_AT + n {
         return icepole::open_number(
             v,
             key.len(),
@@ -59,10 +62,10 @@ fn open_call(
     if number != 0 {
         return number;
     }
-    let length = r.length as u64;
+    let count = r.length as u64;
     let s = r.secret;
-    bytes_le::store_u64(info, 0, length);
-    bytes_le::put_bytes(info, 8, &s[0..n]);
+    bytes_le::store_u64(info, 0, count);
+    bytes_le::put_bytes(info, SECRET_AT, &s[0..n]);
     0
 }
 
