@@ -16,7 +16,7 @@ use Rattle.icepole.specs.Variants.{sizes, tagLength}
 use Rattle.icepole.specs.Answers.{maxLength, tagAgrees, fitsOutput, sealNumber, openNumber, sealRefusal, sealAnswer, sealOutput, openRefusal, openAnswer, openOutput}
 use Rattle.strips.specs.declared.StripState.{StripState}
 use Rattle.strips.specs.Answers.{startNumber, stripNumber, endNumber, startRefusal, startAnswer, startOutput, stripRefusal, stripAnswer, stripOutput, endRefusal, endAnswer, endOutput}
-use Rattle.icepole_c.specs.Calls.{fitsBoth, openCallInfo}
+use Rattle.icepole_c.specs.Calls.{infoLength, fitsBoth, openCallInfo}
 use Rattle.icepole_c.specs.Strips.{stripStateLength, stripStateIn, startCallRefusal, startCallOutput, startCallState, stripCallRefusal, stripCallOutput, stripCallState, endCallRefusal, endCallOutput, endCallState}
 use Rattle.burst.specs.declared.Recorder.{Recorder}
 use Rattle.burst.specs.Editions.{written}
@@ -120,9 +120,9 @@ module _ (v : Variant) (key nonce ad c : Bytes) where
     }
 
     module _ (info : Bytes) where
-      short : Tells (not (leb (8 + sizes v .secret) (length info))) (length info < 8 + sizes v .secret)
+      short : Tells (not (leb (infoLength v) (length info))) (length info < infoLength v)
       short =
-          let t = at-most (8 + sizes v .secret) (length info) in
+          let t = at-most (infoLength v) (length info) in
           record { yes = λ h. leb-false _ _ (not-true _ h); no′ = λ h g. let l = t .yes (not-false _ h) in omega arith }
 
       opens-in-c : OpenCall v key nonce ad c out info
@@ -130,7 +130,7 @@ module _ (v : Variant) (key nonce ad c : Bytes) where
       opens-in-c = record {
         order =
             opening v (length key) (length nonce) (length ad) (length c) (fitsBoth v key nonce ad c out info) tag _ (tag ≡ false)
-            (one-fails (leb (8 + sizes v .secret) (length info)) (fitsOutput v c out) (length info < 8 + sizes v .secret) (NoRoomToOpen v c out) short (narrow v c out))
+            (one-fails (leb (infoLength v) (length info)) (fitsOutput v c out) (length info < infoLength v) (NoRoomToOpen v c out) short (narrow v c out))
             (fails tag);
         refused = λ h. let z = ne-eqb _ 0 h in (simp z, simp z);
       }

@@ -19,12 +19,12 @@ use Rattle.icepole.specs.declared.Variant.{Variant}
 use Rattle.icepole.specs.declared.Variant.the-variants.{Icepole128}
 use Rattle.icepole.specs.declared.Sealed.{Sealed}
 use Rattle.icepole.specs.declared.Opened.{Opened}
-use Rattle.icepole.specs.Variants.{sizes, tagLength}
+use Rattle.icepole.specs.Variants.{sizes, tagLength, maxSecret}
 use Rattle.icepole.specs.Answers.{maxLength, tagAgrees, sealNumber, sealRefusal, sealAnswer, sealOutput, openNumber, fitsOutput, openAnswer, openOutput}
 use Rattle.strips.specs.declared.StripState.{StripState}
 use Rattle.strips.specs.declared.StripAnswer.{StripAnswer}
 use Rattle.strips.specs.Answers.{startNumber, notStarted, startAnswer, startOutput, stripAnswer, stripOutput, endAnswer, endOutput}
-use Rattle.icepole_c.specs.Calls.{openCallRefusal, openCallOutput, openCallInfo}
+use Rattle.icepole_c.specs.Calls.{infoLength, openCallRefusal, openCallOutput, openCallInfo}
 use Rattle.icepole_c.specs.Strips.{stripStateLength, stripStateBytes, stripStateIn, startCallRefusal, startCallOutput, startCallState, stripCallRefusal, stripCallOutput, stripCallState, endCallRefusal, endCallOutput, endCallState}
 use Rattle.burst.specs.declared.Recorder.{Recorder}
 use Rattle.burst.specs.Editions.{written}
@@ -109,7 +109,7 @@ module _ (v : Variant) (key nonce ad c : Bytes) where
 
   pub record Verify : Type 0 where
     pub order : FirstOf (verifying .refusal) (orderOfOpen v (length key) (length nonce) (length ad) (length c) ⊥ TagDiffers)
-    pub refused : verifying .refusal ≢ 0 → verifying ≡ record { refusal = verifying .refusal; mark = 0; length = 0; secret = replicate 16 0 }
+    pub refused : verifying .refusal ≢ 0 → verifying ≡ record { refusal = verifying .refusal; mark = 0; length = 0; secret = replicate maxSecret 0 }
 
   module _ (out : Bytes) where
     abbrev opening : Opened
@@ -118,7 +118,7 @@ module _ (v : Variant) (key nonce ad c : Bytes) where
     pub record Open : Type 0 where
       pub order : FirstOf (opening .refusal) (orderOfOpen v (length key) (length nonce) (length ad) (length c) (NoRoomToOpen v c out) TagDiffers)
       pub refused : opening .refusal ≢ 0
-          → (opening ≡ record { refusal = opening .refusal; mark = 0; length = 0; secret = replicate 16 0 })
+          → (opening ≡ record { refusal = opening .refusal; mark = 0; length = 0; secret = replicate maxSecret 0 })
           × (openOutput v key nonce ad c (fitsOutput v c out) out ≡ out)
 
     -- in C, with 5 for the info too
@@ -128,7 +128,7 @@ module _ (v : Variant) (key nonce ad c : Bytes) where
 
       pub record OpenCall : Type 0 where
         pub order :
-            FirstOf openingC (orderOfOpen v (length key) (length nonce) (length ad) (length c) ((length info < 8 + sizes v .secret) ⊎ NoRoomToOpen v c out) TagDiffers)
+            FirstOf openingC (orderOfOpen v (length key) (length nonce) (length ad) (length c) ((length info < infoLength v) ⊎ NoRoomToOpen v c out) TagDiffers)
         pub refused : openingC ≢ 0 → (openCallOutput v key nonce ad c out info ≡ out) × (openCallInfo v key nonce ad c out info ≡ info)
 
 -- ---- strips. Start: 1, 2, 3, 4, 5. By the lengths of key, nonce, secret number, associated data and output

@@ -11,7 +11,7 @@ use Rattle.bits.specs.Bits.{bit, number}
 use Rattle.bytes_le.specs.Bytes.{Bytes}
 use Rattle.permutation.specs.State.{Grid, State, setWord, state}
 use Rattle.permutation.specs.Permutation.{μ, ρ, π, sbox}
-use Rattle.state_bytes.specs.StateBytes.{stateOf}
+use Rattle.state_bytes.specs.StateBytes.{stateLength, stateOf}
 use Rattle.icepole.specs.Sealing.{xorWith, pad}
 use Rattle.icepole.specs.declared.Variant.the-variants.{Icepole128}
 use Rattle.icepole.specs.Variants.{sizes}
@@ -36,7 +36,7 @@ sboxOf n = number 5 (sbox (bit n))
 
 -- the zero state with a padded block xored in
 abbrev pub xoredIn : Bytes → ℕ → State
-xoredIn b frame = stateOf (xorWith (replicate 160 0) (pad b frame))
+xoredIn b frame = stateOf (xorWith (replicate stateLength 0) (pad b frame))
 
 -- burst 7 with drop, keep of 3 bytes, drop (01, "Afterwards"), closed in a buffer of 111 bytes; the key, the site mark, the stamp and the picture do not
 -- matter here
