@@ -28,7 +28,7 @@ use Rattle.burst.proofs.Parts.{part-sealed, length-mark, length-body, mark-byte
 use Rattle.reader.specs.declared.Checked.{Checked}
 use Rattle.reader.specs.declared.Verdict.the-variants.{Agree}
 use Rattle.reader.specs.Front.{editionIn, nameIn, allZero, restRules, takenIn, keptIn, droppedIn, indexOffsetIn, entryAt, entriesAt}
-use Rattle.reader.specs.Reader.{closingPart, recordPart, recordParts, agrees, markIn, bodyIn, verdictOn, checkRefusal, checkAnswer}
+use Rattle.reader.specs.Reader.{closingPart, recordPart, recordParts, agrees, markIn, bodyIn, verdictOn, checkAnswer}
 use Rattle.reader.proofs.Rules.{Front, entries-obey, entries-end}
 use Rattle.reader.proofs.Parts.{first-agrees}
 use Rattle.reader.proofs.Answers.{Accepted, accepted as obeyed, checked-refusal}

@@ -6,7 +6,7 @@ use mathlib.Core.Logic.{_⊎_, inl, inr, ⊎-elim, _≢_}
 use mathlib.Core.Path.{_≡_, refl, sym, ap, subst, _∙_}
 use Prim.Native.Nat.{ℕ, suc, _+_, _-_, _≤_, _<_}
 use native.Mathlib.Omega.{arith}
-use borrow.Author.Tests.{eq-eqb, ne-eqb, le-ltb, lt-ltb, lt-leb, leb-false, not-true, not-false}
+use borrow.Author.Tests.{eq-eqb, ne-eqb, le-ltb, lt-ltb, leb-false, not-true, not-false}
 use lib.Dec.{eqb, leb, ltb}
 use lib.ListN.{length, drop}
 use Rattle.bytes_le.specs.Bytes.{Bytes}

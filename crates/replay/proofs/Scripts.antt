@@ -1,7 +1,7 @@
 -- Scripts, call by call: what stands first, and what a turn of `run` does.
 -- Assumes nothing.
 use mathlib.Core.Bool.{Bool, true, false, cond}
-use mathlib.Core.List.{List, [], _∷_, _++_, append-assoc}
+use mathlib.Core.List.{List, [], _∷_, _++_}
 use mathlib.Core.Logic.{_⊎_, inl, inr}
 use mathlib.Core.Option.{Option, some, none, Option·some-injective}
 use mathlib.Core.Path.{_≡_, refl, sym, ap, ap₂, _∙_}
@@ -10,18 +10,18 @@ use native.Mathlib.Omega.{arith}
 use native.Mathlib.Nat.{add-zero}
 use borrow.Author.Tests.{eq-eqb, ne-eqb, lt-ltb, le-ltb, eqb-false, ltb-false}
 use lib.Dec.{eqb, ltb}
-use lib.ListN.{length, take, drop, length-append, length-drop}
+use lib.ListN.{length, take, drop, length-drop}
 use lib.Seq.{drop-drop}
 use Rattle.bytes_le.specs.Bytes.{Bytes, putBytes, le, unle, leAt}
 use Rattle.bytes_le.proofs.Laws.{put-put}
 use Rattle.burst.specs.declared.Recorder.{Recorder}
 use Rattle.burst.specs.declared.ShotAnswer.{ShotAnswer}
 use Rattle.burst.specs.declared.Closed.{Closed}
-use Rattle.trace.specs.Plain.{byValue, Call, keepShot, dropShot, closeBurst, Answer}
+use Rattle.trace.specs.Plain.{byValue, Call, dropShot, closeBurst, Answer}
 use Rattle.burst.specs.Recorder.{keepAnswer, keepBuffer, dropAnswer, closeAnswer, closeBuffer}
-use Rattle.trace.specs.Trace.{nextRecorder, nextBuffer, answerTo, answersFrom, bufferFrom}
+use Rattle.trace.specs.Trace.{nextRecorder, nextBuffer, answerTo, answersFrom}
 use Rattle.replay.specs.declared.Step.{Step}
-use Rattle.replay.specs.Replay.{stampLength, pictureLength, keepLength, keepIn, firstCall, following, scriptCalls, leaving, scriptRest, answerBytes, answersBytes, stepOf, stepBuffer}
+use Rattle.replay.specs.Replay.{stampLength, pictureLength, keepLength, keepIn, firstCall, following, scriptCalls, leaving, scriptRest, answersBytes, stepOf, stepBuffer}
 
 -- a number of a script's part
 pub part-number : (n i j : ℕ) (s : Bytes) → leAt n (drop i s) j ≡ leAt n s (i + j)

@@ -4,9 +4,9 @@ use mathlib.Core.Bool.{Bool, true, false}
 use mathlib.Core.List.{List, [], _∷_, _++_}
 use mathlib.Core.Path.{_≡_, refl, sym, ap, ap₂, _∙_}
 use mathlib.Core.Option.{some}
-use Prim.Native.Nat.{ℕ, suc, _+_, _-_, _*_, _≤_, _<_}
+use Prim.Native.Nat.{ℕ, _+_, _-_, _*_, _≤_, _<_}
 use native.Mathlib.Omega.{arith}
-use native.Mathlib.Nat.{sub-zero, add-zero, zero-add}
+use native.Mathlib.Nat.{sub-zero, zero-add}
 use borrow.Author.Tests.{eq-eqb, ne-eqb, eqb-true, eqb-false}
 use lib.Dec.{eqb}
 use lib.ListN.{length, drop, length-drop}
@@ -17,7 +17,7 @@ use Rattle.trace.specs.Plain.{Call, Answer}
 use Rattle.trace.specs.Trace.{nextRecorder, nextBuffer, answerTo, answersFrom, bufferFrom}
 use Rattle.replay.specs.declared.Performed.{Performed}
 use Rattle.replay.specs.declared.Step.{Step}
-use Rattle.replay.specs.Replay.{scriptCalls, scriptRest, answerBytes, answersBytes, stepOf, stepBuffer}
+use Rattle.replay.specs.Replay.{scriptCalls, scriptRest, answersBytes, stepOf, stepBuffer}
 use Rattle.replay.proofs.Scripts.{calls-most, answers-length, bytes-length, answer-put}
 
 -- nothing is left where the position is the end

@@ -2,7 +2,6 @@
 -- "Recorder"). What a call answers and leaves is what its contract states.
 -- Assumes nothing.
 use mathlib.Core.List.{List, [], _∷_}
-use Prim.Native.Nat.{ℕ}
 use Rattle.bytes_le.specs.Bytes.{Bytes}
 use Rattle.burst.specs.declared.Recorder.{Recorder}
 use Rattle.burst.specs.declared.ShotAnswer.{ShotAnswer}

@@ -6,7 +6,7 @@ use native.Mathlib.Omega.{arith}
 use borrow.Author.Needs.{needs}
 use borrow.Author.Tests.{not-true, not-false}
 use lib.ListN.{length, take, drop}
-use Rattle.burst.specs.Editions.{maxEntries, maxHeader}
+use Rattle.burst.specs.Editions.{maxEntries}
 use Rattle.burst.specs.Index.{entryOf, indexRules}
 use Rattle.burst.proofs.Rules.{obeys, turn, fault, ended}
 use Rattle.burst.proofs.entries_ok.Statement.{statement}

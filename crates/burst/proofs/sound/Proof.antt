@@ -2,7 +2,6 @@
 -- Assumes nothing.
 use mathlib.Core.Path.{sym, _∙_}
 use native.Mathlib.Omega.{arith}
-use borrow.Author.Needs.{needs}
 use Rattle.burst.proofs.Rules.{refuted, clash, sounds, sound-is}
 use Rattle.burst.proofs.sound.Statement.{statement}
 use Rattle.burst.proofs.sound.Tie as tie

@@ -1,6 +1,6 @@
 -- `burst_c::burst_fetch` meets its contract.
 -- Assumes nothing.
-use mathlib.Core.Path.{_≡_, sym, _∙_}
+use mathlib.Core.Path.{sym, _∙_}
 use native.Mathlib.Omega.{arith}
 use borrow.Author.Needs.{needs}
 use Rattle.reader.proofs.Answers.{located-refusal, located-mark, fetched-mark}

@@ -1,7 +1,6 @@
 -- `reader::index_ok` meets its contract.
 -- Assumes nothing.
 use mathlib.Core.Path.{ap, _∙_}
-use native.Mathlib.Omega.{arith}
 use borrow.Author.Needs.{needs}
 use Rattle.burst.specs.Index.{indexRules}
 use Rattle.reader.proofs.index_ok.Statement.{statement}

@@ -6,11 +6,9 @@ use Prim.Native.Nat.{_+_}
 use native.Mathlib.Omega.{arith}
 use borrow.Author.Needs.{needs}
 use lib.ListN.{length, take, drop}
-use Rattle.bytes_le.specs.Bytes.{Bytes}
 use Rattle.burst.specs.declared.Entry.{Entry}
 use Rattle.burst.specs.Parts.{sealLength}
 use Rattle.burst.proofs.Rows.{numbered-known}
-use Rattle.reader.specs.declared.Fetched.{Fetched}
 use Rattle.reader.specs.Front.{editionNumberIn}
 use Rattle.reader.specs.Reader.{recordPart, sealedIn, fetchedAs}
 use Rattle.reader.proofs.Opens.{lent, mark-told, body-told, record-answer, record-output}

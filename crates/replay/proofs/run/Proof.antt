@@ -1,22 +1,13 @@
 -- `replay::run` meets its contract. The loop's invariant: the calls that are left, performed from here, leave what all calls leave from the start.
 -- Assumes nothing.
-use mathlib.Core.Bool.{true, false}
-use mathlib.Core.List.{List, [], _∷_, _++_}
-use mathlib.Core.Option.{Option, some, none}
-use mathlib.Core.Path.{_≡_, refl, sym, ap, ap₂, _∙_}
-use Prim.Native.Nat.{ℕ, suc, _+_, _-_, _*_, _≤_, _<_}
+use mathlib.Core.Path.{_≡_, refl, ap, _∙_}
+use Prim.Native.Nat.{ℕ, suc, _+_, _-_, _≤_}
 use native.Mathlib.Omega.{arith}
-use native.Mathlib.Nat.{sub-zero}
 use borrow.Author.Needs.{needs}
 use borrow.Author.Tests.{not-true, not-false}
 use lib.ListN.{length, drop, length-drop}
-use Rattle.bytes_le.specs.Bytes.{Bytes, putBytes}
-use Rattle.bytes_le.proofs.Laws.{put-none}
-use Rattle.burst.specs.declared.Recorder.{Recorder}
-use Rattle.trace.specs.Plain.{Call}
-use Rattle.trace.specs.Trace.{answersFrom, bufferFrom}
 use Rattle.replay.specs.declared.Step.{Step}
-use Rattle.replay.specs.Replay.{firstCall, scriptCalls, scriptRest, answersBytes, stepOf, stepBuffer}
+use Rattle.replay.specs.Replay.{scriptCalls, scriptRest, stepOf, stepBuffer}
 use Rattle.replay.proofs.Scripts.{stops, goes, first-fits, left-none, left-some, rest-none, rest-some}
 use Rattle.replay.proofs.Turns.{Left, all-left, none-left, turned}
 use Rattle.replay.proofs.run.Statement.{statement}
