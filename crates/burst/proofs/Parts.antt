@@ -22,7 +22,7 @@ use Rattle.icepole.proofs.OpenedBytes.{secret-bytes, message-bytes}
 use Rattle.burst.specs.declared.Edition.{Edition}
 use Rattle.burst.specs.declared.Name.{Name}
 use Rattle.burst.specs.Editions.{maxHeader}
-use Rattle.burst.specs.Parts.{sealLength, nonceOf, sealPart, partAgrees, partMark, partBody, partNumber, partAnswer, partOutput, keyLength, markLength}
+use Rattle.burst.specs.Parts.{sealLength, nonceOf, sealPart, partAgrees, partMark, partBody, partRefusal, partAnswer, partOutput, keyLength, markLength}
 use Rattle.burst.specs.Layout.{Identity, maxPicture, maxIndex, entryBytes, recordBytes, closingSeal}
 use Rattle.burst.proofs.Puts.{length-nonce}
 
@@ -94,8 +94,8 @@ module _ (e : Edition) (key : Bytes) (name : Name) (shot : ℕ) where
       swap true = refl
       swap false = refl
 
-      decided : (holds : Bool) → holds ≡ true → openRefusal Icepole128 key nonce ad c holds ≡ partNumber e key name shot ad c
-      unfolding openRefusal partNumber partAgrees
+      decided : (holds : Bool) → holds ≡ true → openRefusal Icepole128 key nonce ad c holds ≡ partRefusal e key name shot ad c
+      unfolding openRefusal partRefusal partAgrees
       decided holds h =
           open-decides (sizes Icepole128) (length key) (length nonce) (length ad) (length c) holds (tagAgrees (sizes Icepole128) key nonce ad c)
           (sym (open-0 (sizes Icepole128) (length key) (length nonce) (length ad) (length c) holds key16 nonce16 (omega arith) (omega arith) (omega arith) h))
@@ -125,7 +125,7 @@ module _ (e : Edition) (key : Bytes) (name : Name) (shot : ℕ) where
   -- ---- what the answer tells of the tag
   module _ (ad c : Bytes) (r : Opened) (is : r ≡ partAnswer e key name shot ad c) where
     number-is : r .refusal ≡ cond (partAgrees e key name shot ad c) 0 7
-    unfolding partAnswer partNumber
+    unfolding partAnswer partRefusal
     number-is = ap (λ (x : Opened). x .refusal) is
 
     pub answer-agrees : eqb (r .refusal) 0 ≡ partAgrees e key name shot ad c
@@ -146,14 +146,14 @@ module _ (e : Edition) (key : Bytes) (name : Name) (shot : ℕ) where
         by false g = g
 
     pub answer-mark : partAgrees e key name shot ad c ≡ true → sealLength ≤ length c → r .secret ≡ partMark e key name shot ad c
-    unfolding partAnswer partNumber
+    unfolding partAnswer partRefusal
     answer-mark h l =
         let z = length-replicate {A = ℕ} 16 0 in
         let m = length-mark ad c l in
         ap (λ (x : Opened). x .secret) is ∙ simp h (put-whole (replicate 16 0) (partMark e key name shot ad c) (omega arith))
 
   pub part-output : (ad c out : Bytes) → partAgrees e key name shot ad c ≡ true → partOutput e key name shot ad c out ≡ putBytes out 0 (partBody e key name shot ad c)
-  unfolding partOutput partNumber
+  unfolding partOutput partRefusal
   part-output ad c out h = simp h
 
   -- ---- a buffer whose part from `at` on was lent for a sealed part

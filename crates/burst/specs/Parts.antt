@@ -24,6 +24,10 @@ keyLength = sizes Icepole128 .key
 abbrev pub markLength : ℕ
 markLength = sizes Icepole128 .secret
 
+-- what stands for a stamp or a site mark in the answer of a refused call
+abbrev pub noMark : Bytes
+noMark = replicate markLength 0
+
 -- bytes by which sealing lengthens: the sealed mark and the tag. A closing seal has no more
 abbrev pub sealLength : ℕ
 sealLength = markLength + tagLength
@@ -53,12 +57,12 @@ module _ (e : Edition) (key : Bytes) (name : Name) (shot : ℕ) where
     partBody = messageOf (sizes Icepole128) key (nonceOf e name shot) associated c
 
     -- ---- what verifying and opening answer where every length is right: the tag alone decides
-    unfoldable pub partNumber : ℕ
-    partNumber = cond partAgrees 0 7
+    unfoldable pub partRefusal : ℕ
+    partRefusal = cond partAgrees 0 7
 
     -- the body's length, and the mark in the field of the secret number
     unfoldable pub partAnswer : Opened
-    partAnswer = openedAnswer partNumber (length c - sealLength) partMark
+    partAnswer = openedAnswer partRefusal (length c - sealLength) partMark
 
     unfoldable pub partOutput : (out : Bytes) → Bytes
-    partOutput out = unless partNumber out (putBytes out 0 partBody)
+    partOutput out = unless partRefusal out (putBytes out 0 partBody)

@@ -1,12 +1,12 @@
 -- The recorder's calls (01, "Recorder"): what each answers and leaves in the buffer, for good and bad calls.
 -- Assumes nothing.
-use mathlib.Core.Bool.{Bool, true, false, cond, not, _&&_}
+use mathlib.Core.Bool.{Bool, true, false, not, _&&_}
 use mathlib.Core.List.{List, _++_}
 use Prim.Native.Nat.{ℕ, _+_, _-_}
-use lib.Dec.{eqb, leb}
+use lib.Dec.{leb}
 use lib.ListN.{length, take, set, replicate}
 use Rattle.bytes_le.specs.Bytes.{Bytes, putBytes}
-use Rattle.icepole.specs.Answers.{unless}
+use Rattle.icepole.specs.Answers.{unless, given}
 use Rattle.burst.specs.declared.Entry.{Entry}
 use Rattle.burst.specs.declared.Place.{Place}
 use Rattle.burst.specs.declared.Recorder.{Recorder}
@@ -17,7 +17,7 @@ use Rattle.burst.specs.declared.Closed.{Closed}
 use Rattle.burst.specs.declared.Edition.{Edition}
 use Rattle.burst.specs.declared.Name.{Name}
 use Rattle.burst.specs.Editions.{written, maxEntries}
-use Rattle.burst.specs.Parts.{keyLength, markLength}
+use Rattle.burst.specs.Parts.{keyLength, noMark}
 use Rattle.burst.specs.Layout.{Identity, identified, headerBytes, recordBytes, closingSeal}
 use Rattle.burst.specs.Numbers.{usedAfter, totalFrom, beginNumber, keepNumber, dropNumber, closeNumber}
 use Rattle.burst.specs.Index.{entryOf, indexRules, indexBytes}
@@ -70,7 +70,7 @@ newRecorder key i used closed = record {
 
 -- what a begin that is turned down returns: a closed recorder, otherwise zero
 unfoldable pub noRecorder : Recorder
-noRecorder = newRecorder (replicate keyLength 0) (identified 0 (replicate markLength 0)) 0 true
+noRecorder = newRecorder (replicate keyLength 0) (identified 0 noMark) 0 true
 
 module _ (key : Bytes) (i : Identity) (buffer : Bytes) where
   unfoldable pub beginRefusal : ℕ
@@ -80,7 +80,7 @@ module _ (key : Bytes) (i : Identity) (buffer : Bytes) where
   beginAnswer = record {
     refusal = beginRefusal;
     mark = 0;
-    recorder = cond (eqb beginRefusal 0) (newRecorder key i (written (length key) .header) false) noRecorder;
+    recorder = unless beginRefusal noRecorder (newRecorder key i (written (length key) .header) false);
   }
 
   -- the header's bytes are zero until close writes it
@@ -93,8 +93,8 @@ abbrev pub shotAnswer : ℕ → Recorder → Recorder → ShotAnswer
 shotAnswer num was is = record {
   refusal = num;
   mark = 0;
-  shot = record { 0 = cond (eqb num 0) (was .taken .0 + 1) 0 };
-  recorder = cond (eqb num 0) is was;
+  shot = record { 0 = given num (was .taken .0 + 1) };
+  recorder = unless num was is;
 }
 
 unfoldable pub afterDrop : Recorder → Recorder
@@ -146,8 +146,8 @@ module _ (r : Recorder) (buffer : Bytes) where
   closeAnswer = record {
     refusal = closeRefusal;
     mark = 0;
-    total = cond (eqb closeRefusal 0) (totalFrom (r .used) (r .kept .0)) 0;
-    recorder = cond (eqb closeRefusal 0) (afterClose r) r;
+    total = given closeRefusal (totalFrom (r .used) (r .kept .0));
+    recorder = unless closeRefusal r (afterClose r);
   }
 
   -- header at the front; index and closing seal behind the records

@@ -21,7 +21,7 @@ use Rattle.icepole.proofs.Numbers.{OpenFits, open-0, open-fits, seal-0}
 use Rattle.icepole.proofs.OpenedBytes.{message-bytes, secret-bytes}
 use Rattle.icepole.proofs.Opening.{length-message-of, length-sealed, length-secret-of, message-of-sealed, opened, seal-open, secret-of-sealed, tag-of-sealed}
 use Rattle.icepole_c.specs.Calls.{openCallInfo, openCallOutput, openCallRefusal, fitsBoth}
-use Rattle.claims.specs.Demand2.{Demand2, Genuine, Within, openDone, sealDone}
+use Rattle.claims.specs.Demand2.{Demand2, GenuineMessage, Within, openDone, sealDone}
 
 module _ (v : Variant) where
   h : Bounded (sizes v)
@@ -112,7 +112,7 @@ module _ (v : Variant) where
         let t : same (expectedTag (sizes v) k n a c) (tagPart c) ≡ true = facts .tag in
         simp (le-leb (sizes v .secret + 16) (length c) (facts .sealed), t)
 
-    pub genuine : Genuine v k n a c fits
+    pub genuine : GenuineMessage v k n a c fits
     unfolding openAnswer openOutput
     genuine =
         let f = facts in

@@ -35,7 +35,7 @@ abbrev pub openDone : ℕ → Bytes → Opened
 openDone count secret = record { refusal = 0; mark = 0; length = count; secret = putBytes noSecret 0 secret }
 
 -- c is what sealing gives for some secret number and message within the limits, and these are what opening c answers and writes
-pub record Genuine (v : Variant) (key nonce ad c : Bytes) (fits : Bool) : Type 0 where
+pub record GenuineMessage (v : Variant) (key nonce ad c : Bytes) (fits : Bool) : Type 0 where
   pub secret : Bytes
   pub message : Bytes
   pub within : Within v key nonce secret ad message
@@ -66,7 +66,7 @@ pub record Demand2 : Type 0 where
       × (openCallOutput v key nonce ad (sealed (sizes v) key nonce secret ad m) out info ≡ putBytes out 0 m)
       × (openCallInfo v key nonce ad (sealed (sizes v) key nonce secret ad m) out info ≡ putBytes info 0 (le 8 (length m) ++ secret))
   -- opening is done only on what sealing gives
-  pub only : (v : Variant) (key nonce ad c : Bytes) (fits : Bool) → openRefusal v key nonce ad c fits ≡ 0 → Genuine v key nonce ad c fits
+  pub only : (v : Variant) (key nonce ad c : Bytes) (fits : Bool) → openRefusal v key nonce ad c fits ≡ 0 → GenuineMessage v key nonce ad c fits
   -- otherwise it gives nothing: the answer is the number with zeros, and the output stays
   pub withholds : (v : Variant) (key nonce ad c : Bytes) (fits : Bool) → (openRefusal v key nonce ad c fits ≡ 0 → ⊥)
       → (openAnswer v key nonce ad c fits ≡ openedAnswer (openRefusal v key nonce ad c fits) 0 [])

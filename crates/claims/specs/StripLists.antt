@@ -24,7 +24,7 @@ use Rattle.state_bytes.specs.StateBytes.{stateLength}
 use Rattle.icepole.specs.declared.Variant.the-variants.{Icepole128}
 use Rattle.icepole.specs.Variants.{sizes, tagLength}
 use Rattle.icepole.specs.Sealing.{sealed}
-use Rattle.icepole.specs.Answers.{maxLength, unless}
+use Rattle.icepole.specs.Answers.{maxLength, unless, given}
 use Rattle.strips.specs.declared.StripState.{StripState}
 use Rattle.strips.specs.declared.StripAnswer.{StripAnswer}
 use Rattle.strips.specs.Answers.{startAnswer, startOutput, stripAnswer, stripOutput, endAnswer, endOutput, startRefusal, stripNumber, endNumber}
@@ -124,11 +124,11 @@ countOf (endOf o) = tagLength
 
 -- a call turned down changes nothing
 unfoldable pub afterCall : PlainMessage → Call → PlainMessage
-afterCall p c = cond (eqb (numberOf p c) 0) (accepted p c) p
+afterCall p c = unless (numberOf p c) p (accepted p c)
 
 -- the mark is 0: no call of these is refused with 7
 abbrev pub plainAnswer : ℕ → ℕ → Told
-plainAnswer num count = record { number = num; mark = 0; count = cond (eqb num 0) count 0 }
+plainAnswer num count = record { number = num; mark = 0; count = given num count }
 
 abbrev pub plainFrom : PlainMessage → List Call → List Told
 plainFrom p [] = []
@@ -158,7 +158,7 @@ module _ (l : StripList) where
 
   -- a start turned down leaves it finished
   abbrev pub plainStart : PlainMessage
-  plainStart = record { message = []; finished = cond (eqb startNumberOf 0) false true }
+  plainStart = record { message = []; finished = unless startNumberOf true false }
 
   unfoldable pub plainTold : List Told
   plainTold = plainAnswer startNumberOf secretLength ∷ plainFrom plainStart (l .calls)

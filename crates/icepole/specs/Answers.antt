@@ -55,9 +55,17 @@ openNumber q k n a c fits agrees =
     ∷ (7 when not agrees)
     ∷ [])
 
+-- ---- what is so after a call: as it was, where the call was refused
+abbrev pub unless : {A : Type 0} → ℕ → A → A → A
+unless num was is = cond (eqb num 0) is was
+
+-- a number of an answer: with a refusal goes 0
+abbrev pub given : ℕ → ℕ → ℕ
+given num x = unless num 0 x
+
 -- ---- answers: with a refusal go zeros, and the mark is 0
 abbrev pub sealedAnswer : ℕ → ℕ → Sealed
-sealedAnswer num count = record { refusal = num; mark = 0; count = cond (eqb num 0) count 0 }
+sealedAnswer num count = record { refusal = num; mark = 0; count = given num count }
 
 -- the field has room for the longest secret number; zeros follow a shorter one
 abbrev pub noSecret : Bytes
@@ -65,11 +73,7 @@ noSecret = replicate maxSecret 0
 
 abbrev pub openedAnswer : ℕ → ℕ → Bytes → Opened
 openedAnswer num count secret =
-    record { refusal = num; mark = 0; length = cond (eqb num 0) count 0; secret = cond (eqb num 0) (putBytes noSecret 0 secret) noSecret }
-
--- a lent buffer after a call: as it was where the call was refused
-abbrev pub unless : ℕ → Bytes → Bytes → Bytes
-unless num was is = cond (eqb num 0) is was
+    record { refusal = num; mark = 0; length = given num count; secret = unless num noSecret (putBytes noSecret 0 secret) }
 
 -- ---- sealing
 module _ (v : Variant) (key nonce secret ad m out : Bytes) where

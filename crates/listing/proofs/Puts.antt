@@ -12,7 +12,7 @@ use lib.ListN.{length, take, drop, set, length-append, length-drop}
 use lib.Seq.{take-all}
 use Rattle.bytes_le.specs.Bytes.{Bytes, putBytes}
 use Rattle.bytes_le.proofs.Laws.{put-put}
-use Rattle.listing.specs.Text.{ascii, decimal, digit, digitsBefore}
+use Rattle.listing.specs.Text.{ascii, decimal, asciiDigit, digitsBefore}
 use Rattle.listing.specs.Listing.{field, headLines, shotLine}
 
 -- ---- digits
@@ -26,22 +26,22 @@ module _ (n : ℕ) (b : Bytes) (i rest : ℕ) (hi : 0 < i) (hb : i ≤ length b)
   before : (x : ℕ) → drop (i - 1) (set b (i - 1) x) ≡ x ∷ drop i b
   before x = let z : suc (i - 1) ≡ i = omega arith in drop-set b (i - 1) x (omega arith) ∙ ap (λ (k : ℕ). x ∷ drop k b) z
 
-  once : cond (ltb rest 10) (digit rest ∷ drop i b) (digitsBefore (i - 1) (rest / 10) (digit (rest % 10) ∷ drop i b)) ≡ decimal n
+  once : cond (ltb rest 10) (asciiDigit rest ∷ drop i b) (digitsBefore (i - 1) (rest / 10) (asciiDigit (rest % 10) ∷ drop i b)) ≡ decimal n
   once = let z : suc (i - 1) ≡ i = omega arith in ap (λ (k : ℕ). digitsBefore k rest (drop i b)) z ∙ e
 
-  pub digit-last : rest < 10 → (x : ℕ) → x ≡ digit rest → drop (i - 1) (set b (i - 1) x) ≡ decimal n
+  pub digit-last : rest < 10 → (x : ℕ) → x ≡ asciiDigit rest → drop (i - 1) (set b (i - 1) x) ≡ decimal n
   digit-last h x ex = before x ∙ ap (λ (x : ℕ). x ∷ drop i b) ex ∙ rw (lt-ltb rest 10 h) at once
 
-  pub digit-more : 10 ≤ rest → (x : ℕ) → x ≡ digit (rest % 10) → digitsBefore (i - 1) (rest / 10) (drop (i - 1) (set b (i - 1) x)) ≡ decimal n
+  pub digit-more : 10 ≤ rest → (x : ℕ) → x ≡ asciiDigit (rest % 10) → digitsBefore (i - 1) (rest / 10) (drop (i - 1) (set b (i - 1) x)) ≡ decimal n
   digit-more h x ex =
       ap (digitsBefore (i - 1) (rest / 10)) (before x ∙ ap (λ (x : ℕ). x ∷ drop i b) ex) ∙ rw (le-ltb rest 10 h) at once
 
 digits-length : (k n : ℕ) (after : Bytes) → length (digitsBefore k n after) ≤ k + length after
 digits-length zero n after = omega arith
-digits-length (suc k) n after = by (ltb n 10) (digits-length k (n / 10) (digit (n % 10) ∷ after))
+digits-length (suc k) n after = by (ltb n 10) (digits-length k (n / 10) (asciiDigit (n % 10) ∷ after))
   where
-    by : (t : Bool) → length (digitsBefore k (n / 10) (digit (n % 10) ∷ after)) ≤ k + suc (length after)
-        → length (cond t (digit n ∷ after) (digitsBefore k (n / 10) (digit (n % 10) ∷ after))) ≤ suc k + length after
+    by : (t : Bool) → length (digitsBefore k (n / 10) (asciiDigit (n % 10) ∷ after)) ≤ k + suc (length after)
+        → length (cond t (asciiDigit n ∷ after) (digitsBefore k (n / 10) (asciiDigit (n % 10) ∷ after))) ≤ suc k + length after
     by true h = omega arith
     by false h = omega arith
 

@@ -3,10 +3,10 @@
 use mathlib.Core.Bool.{cond}
 use mathlib.Core.List.{List, [], _∷_, _++_}
 use Prim.Native.Nat.{ℕ, _*_}
-use lib.Dec.{eqb, ltb}
+use lib.Dec.{ltb}
 use lib.ListN.{length}
 use Rattle.bytes_le.specs.Bytes.{Bytes, putBytes}
-use Rattle.icepole.specs.Answers.{_when_, refusal, unless}
+use Rattle.icepole.specs.Answers.{_when_, refusal, unless, given}
 use Rattle.burst.specs.declared.Entry.{Entry}
 use Rattle.burst.specs.Editions.{maxEntries}
 use Rattle.reader.specs.Front.{takenIn, keptIn, droppedIn, burstNumberIn, indexOffsetIn, entriesAt, frontRules}
@@ -59,7 +59,7 @@ module _ (f out : Bytes) where
 
   -- the length of the text
   unfoldable pub listAnswer : Listed
-  listAnswer = record { refusal = listRefusal; mark = 0; length = cond (eqb listRefusal 0) (length (listing f)) 0 }
+  listAnswer = record { refusal = listRefusal; mark = 0; length = given listRefusal (length (listing f)) }
 
   unfoldable pub listOutput : Bytes
   listOutput = unless listRefusal out (putBytes out 0 (listing f))

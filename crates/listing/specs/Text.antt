@@ -13,13 +13,13 @@ abbrev pub ascii : String → Bytes
 ascii [] = list.[]
 ascii (c ∷ s) = list._∷_ (code c) (ascii s)
 
-abbrev pub digit : ℕ → ℕ
-digit n = 48 + n
+abbrev pub asciiDigit : ℕ → ℕ
+asciiDigit n = 48 + n
 
 -- the digits of n, at most k, before `after`: the last one is found first
 abbrev pub digitsBefore : ℕ → ℕ → Bytes → Bytes
 digitsBefore zero n after = after
-digitsBefore (suc k) n after = cond (ltb n 10) (list._∷_ (digit n) after) (digitsBefore k (n / 10) (list._∷_ (digit (n % 10)) after))
+digitsBefore (suc k) n after = cond (ltb n 10) (list._∷_ (asciiDigit n) after) (digitsBefore k (n / 10) (list._∷_ (asciiDigit (n % 10)) after))
 
 -- a number below 2^64 has at most so many digits
 abbrev pub maxDigits : ℕ

@@ -4,12 +4,12 @@ use mathlib.Core.Bool.{Bool, cond, not}
 use mathlib.Core.List.{List, [], _∷_, _++_}
 use Prim.Native.Nat.{ℕ, zero, suc, _+_, _*_}
 use lib.Dec.{eqb, leb, ltb}
-use lib.ListN.{length, take, drop, replicate}
+use lib.ListN.{length, take, drop}
 use Rattle.bytes_le.specs.Bytes.{Bytes, putBytes}
 use Rattle.icepole.specs.declared.Opened.{Opened}
-use Rattle.icepole.specs.Answers.{refusal, _when_, unless}
+use Rattle.icepole.specs.Answers.{refusal, _when_, unless, given}
 use Rattle.burst.specs.Fields.{entryLength}
-use Rattle.burst.specs.Parts.{sealLength, partAgrees, partMark, partBody, partAnswer, keyLength, markLength}
+use Rattle.burst.specs.Parts.{sealLength, partAgrees, partMark, partBody, partAnswer, keyLength, noMark}
 use Rattle.burst.specs.Layout.{closingOffset}
 use Rattle.burst.specs.declared.Entry.{Entry}
 use Rattle.reader.specs.declared.Checked.{Checked}
@@ -77,27 +77,20 @@ module _ (key f : Bytes) where
   unfoldable pub verdict : Verdict
   verdict = verdictOn (closingPart f ∷ recordParts (keptIn f) (indexOffsetIn f) f)
 
--- with a refusal go zeros
-abbrev pub given : ℕ → ℕ → ℕ
-given num x = cond (eqb num 0) x 0
-
-abbrev pub givenMark : ℕ → Bytes → Bytes
-givenMark num bytes = cond (eqb num 0) bytes (replicate markLength 0)
-
 -- ---- what a refused call answers
 abbrev pub notChecked : ℕ → ℕ → Checked
 notChecked num mark = record {
   refusal = num;
   mark = mark;
   «burst_number» = 0;
-  «site_mark» = replicate markLength 0;
+  «site_mark» = noMark;
   taken = record { 0 = 0 };
   kept = record { 0 = 0 };
   dropped = 0;
 }
 
 abbrev pub notFetched : ℕ → ℕ → Fetched
-notFetched num mark = record { refusal = num; mark = mark; shot = record { 0 = 0 }; stamp = replicate markLength 0; length = 0 }
+notFetched num mark = record { refusal = num; mark = mark; shot = record { 0 = 0 }; stamp = noMark; length = 0 }
 
 -- ---- what an accepted fetch answers: of the entry x, with its stamp
 abbrev pub fetchedAs : Entry → Bytes → Fetched
@@ -123,7 +116,7 @@ module _ (key f : Bytes) where
     refusal = checkRefusal;
     mark = checkMark;
     «burst_number» = given checkRefusal (burstNumberIn f);
-    «site_mark» = givenMark checkRefusal (markIn key f (closingPart f));
+    «site_mark» = unless checkRefusal noMark (markIn key f (closingPart f));
     taken = record { 0 = given checkRefusal (takenIn f) };
     kept = record { 0 = given checkRefusal (keptIn f) };
     dropped = given checkRefusal (droppedIn f);
@@ -147,7 +140,7 @@ module _ (key f : Bytes) (place : ℕ) where
   recordOffset = given recordRefusal (entryAt f (positionOf f place) .offset)
 
   unfoldable pub recordBytesIn : Bytes
-  recordBytesIn = cond (eqb recordRefusal 0) (sealedIn key f (recordPart f (positionOf f place))) []
+  recordBytesIn = unless recordRefusal [] (sealedIn key f (recordPart f (positionOf f place)))
 
   module _ (out : Bytes) where
     -- record's number, then 5
@@ -163,7 +156,7 @@ module _ (key f : Bytes) (place : ℕ) where
       refusal = fetchRefusal;
       mark = checkMark key f;
       shot = record { 0 = given fetchRefusal (entryAt f (positionOf f place) .shot .0) };
-      stamp = givenMark fetchRefusal (markIn key f (recordPart f (positionOf f place)));
+      stamp = unless fetchRefusal noMark (markIn key f (recordPart f (positionOf f place)));
       length = given fetchRefusal (entryAt f (positionOf f place) .length);
     }
 

@@ -1,9 +1,9 @@
 -- What start, strip and end answer and leave in the lent output, for good and bad calls (01, "Afterwards" and "Turned down, by example"). ICEPOLE-128.
 -- Assumes nothing.
-use mathlib.Core.Bool.{Bool, true, false, cond, _||_}
+use mathlib.Core.Bool.{Bool, true, false, _||_}
 use mathlib.Core.List.{[], _∷_}
 use Prim.Native.Nat.{ℕ, _+_}
-use lib.Dec.{eqb, ltb}
+use lib.Dec.{ltb}
 use lib.ListN.{length, replicate}
 use Rattle.bytes_le.specs.Bytes.{Bytes, putBytes}
 use Rattle.state_bytes.specs.StateBytes.{stateLength}
@@ -11,7 +11,7 @@ use Rattle.icepole.specs.declared.Sizes.{Sizes}
 use Rattle.icepole.specs.declared.Variant.the-variants.{Icepole128}
 use Rattle.icepole.specs.Variants.{sizes, tagLength}
 use Rattle.icepole.specs.Sealing.{_⊕₈_, keyed, ready}
-use Rattle.icepole.specs.Answers.{_when_, refusal, maxLength, sealNumber, unless}
+use Rattle.icepole.specs.Answers.{_when_, refusal, maxLength, sealNumber, unless, given}
 use Rattle.strips.specs.declared.StripState.{StripState}
 use Rattle.strips.specs.declared.StripAnswer.{StripAnswer}
 use Rattle.strips.specs.Machine.{Held, held, fed, fedBytes, fillOf, ended}
@@ -39,7 +39,7 @@ endNumber finished count o = refusal ((14 when (finished || ltb maxLength count)
 
 -- ---- answers: the state that a call leaves and the count of bytes written, or the state it was given and zeros
 abbrev pub answered : ℕ → StripState → StripState → ℕ → StripAnswer
-answered num was is count = record { refusal = num; mark = 0; count = cond (eqb num 0) count 0; state = cond (eqb num 0) is was }
+answered num was is count = record { refusal = num; mark = 0; count = given num count; state = unless num was is }
 
 -- ---- start
 -- what a start that is turned down returns

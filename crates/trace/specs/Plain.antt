@@ -1,11 +1,11 @@
 -- The plain burst (01, "Recorder"): worked out from the calls' arguments and the buffer's length alone, never from the recorder.
 -- Assumes nothing.
-use mathlib.Core.Bool.{Bool, true, false, cond, not}
+use mathlib.Core.Bool.{Bool, true, false, not}
 use mathlib.Core.List.{List, [], _∷_, _++_}
 use Prim.Native.Nat.{ℕ, suc, _+_}
-use lib.Dec.{eqb}
 use lib.ListN.{length}
 use Rattle.bytes_le.specs.Bytes.{Bytes}
+use Rattle.icepole.specs.Answers.{unless, given}
 use Rattle.burst.specs.declared.Edition.{Edition}
 use Rattle.burst.specs.declared.Name.{Name}
 use Rattle.burst.specs.Layout.{Identity, identified, entryBytes, headerBytes, recordBytes, closingSeal}
@@ -129,11 +129,11 @@ module _ (e : Edition) (bufferLength : ℕ) where
 
   -- a call turned down changes nothing
   unfoldable pub afterCall : Plain → Call → Plain
-  afterCall p c = cond (eqb (numberOf p c) 0) (accepted p c) p
+  afterCall p c = unless (numberOf p c) p (accepted p c)
 
   -- the mark is 0: no call of these is refused with 7
   unfoldable pub answerOf : Plain → Call → Answer
-  answerOf p c = record { number = numberOf p c; mark = 0; value = cond (eqb (numberOf p c) 0) (valueOf p c) 0 }
+  answerOf p c = record { number = numberOf p c; mark = 0; value = given (numberOf p c) (valueOf p c) }
 
   abbrev pub afterCalls : Plain → List Call → Plain
   afterCalls p [] = p
@@ -149,7 +149,7 @@ module _ (e : Edition) (l : CallList) where
 
   -- a begin turned down leaves the burst closed
   unfoldable pub begun : Plain
-  begun = cond (eqb beginNumberOf 0) (newBurst (l .key) (l .identity)) noBurst
+  begun = unless beginNumberOf noBurst (newBurst (l .key) (l .identity))
 
   -- the plain burst of a list
   unfoldable pub plainOf : Plain
