@@ -17,7 +17,9 @@ use Rattle.burst.specs.Editions.{written}
 use Rattle.burst.specs.Layout.{Identity, headerBytes, recordBytes, closingSeal}
 use Rattle.burst.specs.Numbers.{usedAfter, totalFrom, beginNumber, keepNumber, dropNumber, closeNumber}
 use Rattle.burst.specs.Index.{entryOf}
-use Rattle.burst.specs.Recorder.{editionOf, nameOf, identityOf, isSound, changed, newRecorder, noRecorder, beginRefusal, beginAnswer, beginBuffer, dropRefusal, afterDrop, dropAnswer, keepRefusal, afterKeep, keepAnswer, keepBuffer, closeRefusal, afterClose, closeAnswer, closeBuffer, recorderHeader, recorderIndex, recorderSeal}
+use Rattle.burst.specs.Recorder.{editionOf, nameOf, identityOf, isSound, changed, newRecorder, noRecorder, beginRefusal, beginAnswer}
+use Rattle.burst.specs.Recorder.{beginBuffer, dropRefusal, afterDrop, dropAnswer, keepRefusal, afterKeep, keepAnswer, keepBuffer, closeRefusal}
+use Rattle.burst.specs.Recorder.{afterClose, closeAnswer, closeBuffer, recorderHeader, recorderIndex, recorderSeal}
 
 abbrev begunWith : ℕ → Recorder → Begun
 begunWith num r = record { refusal = num; mark = 0; recorder = r }

@@ -18,7 +18,8 @@ ghost use Rattle.burst.specs.Parts.{sealLength, nonceOf, sealPart, partA
 ghost use Rattle.burst.specs.Layout.{identified, maxPicture, maxIndex, headerBytes, recordBytes, closingSeal};
 ghost use Rattle.burst.specs.Numbers.{beginNumber, keepNumber, dropNumber, closeNumber};
 ghost use Rattle.burst.specs.Index.{entryOf, entryRules, indexRules, bytesOfEntry};
-ghost use Rattle.burst.specs.Recorder.{editionOf, nameOf, identityOf, isSound, newRecorder, beginAnswer, beginBuffer, dropAnswer, afterKeep, keepAnswer, keepBuffer, recorderIndex, closeAnswer, closeBuffer};
+ghost use Rattle.burst.specs.Recorder.{editionOf, nameOf, identityOf, isSound, newRecorder, beginAnswer, beginBuffer, dropAnswer};
+ghost use Rattle.burst.specs.Recorder.{afterKeep, keepAnswer, keepBuffer, recorderIndex, closeAnswer, closeBuffer};
 
 // A shot number (01): counts firings from 1.
 pub struct Shot(pub u16);

@@ -17,7 +17,8 @@ use Rattle.reader.specs.declared.Fetched.{Fetched}
 use Rattle.reader.specs.Front.{entryAt, positionOf}
 use Rattle.reader.specs.Reader.{checkAnswer, recordRefusal, recordOffset, recordBytesIn, fetchRefusal, fetchAnswer, fetchOutput}
 use Rattle.reader.proofs.Answers.{Found, record-refused, record-done, fetch-stands, fetched-refusal}
-use Rattle.burst_c.specs.Calls.{checkInfoLength, checkedBytes, fetchInfoLength, fetchedBytes, checkCallRefusal, checkCallInfo, fetchCallRefusal, fetchCallOutput, fetchCallInfo}
+use Rattle.burst_c.specs.Calls.{checkInfoLength, checkedBytes, fetchInfoLength, fetchedBytes, checkCallRefusal}
+use Rattle.burst_c.specs.Calls.{checkCallInfo, fetchCallRefusal, fetchCallOutput, fetchCallInfo}
 
 -- ---- the info's fields, one behind the other
 pub check-put : (l h₁ h₂ h₃ h₄ h₅ s : Bytes) (i₁ i₂ i₃ i₄ b t k d : ℕ) → checkInfoLength ≤ length l → length s ≡ markLength

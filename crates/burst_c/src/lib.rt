@@ -16,7 +16,8 @@ ghost use Rattle.bytes_le.specs.Bytes.{putBytes};
 ghost use Rattle.reader.specs.Reader.{checkMark, recordRefusal, recordOffset, recordBytesIn};
 ghost use Rattle.listing.specs.Listing.{listRefusal, listAnswer, listOutput};
 ghost use Rattle.replay.specs.Replay.{listOf, wholeScript, Replayed};
-ghost use Rattle.burst_c.specs.Calls.{checkInfoLength, checkedBytes, fetchInfoLength, fetchedBytes, checkCallRefusal, checkCallInfo, placeOf, fetchCallRefusal, fetchCallOutput, fetchCallInfo};
+ghost use Rattle.burst_c.specs.Calls.{checkInfoLength, checkedBytes, fetchInfoLength, fetchedBytes, checkCallRefusal};
+ghost use Rattle.burst_c.specs.Calls.{checkCallInfo, placeOf, fetchCallRefusal, fetchCallOutput, fetchCallInfo};
 ghost use Rattle.burst.specs.Layout.{identified};
 
 // Bytes of what check and fetch put into the info.

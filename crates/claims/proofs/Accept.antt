@@ -20,7 +20,8 @@ use Rattle.burst.specs.Editions.{Known}
 use Rattle.burst.specs.Parts.{sealLength, sealPart, partMark, partBody, markLength}
 use Rattle.burst.specs.Layout.{Identity, headerRest, entryBytes, headerBytes, recordBytes, closingSeal, maxPicture}
 use Rattle.burst.specs.Index.{indexRules}
-use Rattle.trace.specs.Plain.{Firing, kept, gap, pictures, gaps, usedBy, records, index, Plain, headerOf, indexOf, fileOf, byValue, Call, keepShot, dropShot, closeBurst, CallList, numberOf, accepted, afterCall, afterCalls, begun, plainOf, beginNumberOf}
+use Rattle.trace.specs.Plain.{Firing, kept, gap, pictures, gaps, usedBy, records, index, Plain, headerOf, indexOf, fileOf, byValue, Call, keepShot}
+use Rattle.trace.specs.Plain.{dropShot, closeBurst, CallList, numberOf, accepted, afterCall, afterCalls, begun, plainOf, beginNumberOf}
 use Rattle.burst.proofs.Rows.{numbered-among}
 use Rattle.burst.proofs.Rules.{and-true, index-used}
 use Rattle.burst.proofs.Numbers.{keep-0, drop-0, close-0, begin-0}

@@ -27,9 +27,11 @@ use Rattle.reader.specs.declared.Checked.{Checked}
 use Rattle.reader.specs.declared.Verdict.the-variants.{Agree}
 use Rattle.reader.specs.declared.Fetched.{Fetched}
 use Rattle.reader.specs.Front.{editionIn, nameIn, headerIn, takenIn, keptIn, indexOffsetIn, entryAt, entriesAt, positionOf, frontRules}
-use Rattle.reader.specs.Reader.{closingPart, recordParts, sealedIn, agrees, markIn, verdictOn, checkRefusal, checkMark, checkAnswer, recordRefusal, recordOffset, recordBytesIn, notChecked, notFetched, fetchRefusal, fetchAnswer, fetchOutput, fetchedAs}
+use Rattle.reader.specs.Reader.{closingPart, recordParts, sealedIn, agrees, markIn, verdictOn, checkRefusal, checkMark, checkAnswer, recordRefusal}
+use Rattle.reader.specs.Reader.{recordOffset, recordBytesIn, notChecked, notFetched, fetchRefusal, fetchAnswer, fetchOutput, fetchedAs}
 use Rattle.reader.proofs.Rules.{front-is, front-at}
-use Rattle.reader.proofs.Answers.{check-not, check-zero, check-0, checked-refusal, checked-mark, fetched-refusal, Found, found, record-zero, record-refused, record-done, fetch-0, fetch-not, fetch-refused}
+use Rattle.reader.proofs.Answers.{check-not, check-zero, check-0, checked-refusal, checked-mark, fetched-refusal, Found}
+use Rattle.reader.proofs.Answers.{found, record-zero, record-refused, record-done, fetch-0, fetch-not, fetch-refused}
 use Rattle.trace.specs.Agreement.{editionFor}
 use Rattle.trace.proofs.Agreement.{agreement}
 use Rattle.trace.proofs.Shots.{Valid, pictures-gaps, used-least, used-most, length-index, length-records, length-closing, sound-entries}

@@ -9,7 +9,8 @@ use lib.Dec.{eqb}
 use Rattle.burst.specs.declared.Edition.{Edition}
 use Rattle.burst.proofs.Rules.{refuted, clash}
 use Rattle.burst.proofs.Numbers.{keeps, begins, close-0}
-use Rattle.trace.specs.Plain.{kept, gap, pictures, usedBy, Plain, newBurst, noBurst, Call, keepShot, dropShot, closeBurst, CallList, Answer, totalOf, numberOf, accepted, valueOf, afterCall, answerOf, afterCalls, answersOf, begun, plainOf, plainAnswers, beginNumberOf}
+use Rattle.trace.specs.Plain.{kept, gap, pictures, usedBy, Plain, newBurst, noBurst, Call, keepShot, dropShot, closeBurst, CallList, Answer, totalOf}
+use Rattle.trace.specs.Plain.{numberOf, accepted, valueOf, afterCall, answerOf, afterCalls, answersOf, begun, plainOf, plainAnswers, beginNumberOf}
 use Rattle.trace.specs.Agreement.{editionFor}
 use Rattle.trace.proofs.Shots.{pictures-append, used-append}
 use Rattle.trace.proofs.Agreement.{agreement}

@@ -15,16 +15,19 @@ use Rattle.icepole.specs.declared.Variant.the-variants.{Icepole128}
 use Rattle.icepole.specs.Variants.{sizes, tagLength}
 use Rattle.icepole.specs.Answers.{maxLength, tagAgrees, fitsOutput, sealNumber, openNumber, sealRefusal, sealAnswer, sealOutput, openRefusal, openAnswer, openOutput}
 use Rattle.strips.specs.declared.StripState.{StripState}
-use Rattle.strips.specs.Answers.{startNumber, stripNumber, endNumber, startRefusal, startAnswer, startOutput, stripRefusal, stripAnswer, stripOutput, endRefusal, endAnswer, endOutput}
+use Rattle.strips.specs.Answers.{startNumber, stripNumber, endNumber, startRefusal, startAnswer, startOutput}
+use Rattle.strips.specs.Answers.{stripRefusal, stripAnswer, stripOutput, endRefusal, endAnswer, endOutput}
 use Rattle.icepole_c.specs.Calls.{infoLength, fitsBoth, openCallInfo}
-use Rattle.icepole_c.specs.Strips.{stripStateLength, stripStateIn, startCallRefusal, startCallOutput, startCallState, stripCallRefusal, stripCallOutput, stripCallState, endCallRefusal, endCallOutput, endCallState}
+use Rattle.icepole_c.specs.Strips.{stripStateLength, stripStateIn, startCallRefusal, startCallOutput, startCallState, stripCallRefusal}
+use Rattle.icepole_c.specs.Strips.{stripCallOutput, stripCallState, endCallRefusal, endCallOutput, endCallState}
 use Rattle.burst.specs.declared.Recorder.{Recorder}
 use Rattle.burst.specs.Editions.{written}
 use Rattle.burst.specs.Parts.{keyLength, markLength}
 use Rattle.burst.specs.Layout.{Identity, maxPicture}
 use Rattle.burst.proofs.Rules.{clash}
 use Rattle.burst.specs.Numbers.{usedAfter, totalFrom, beginNumber, keepNumber, dropNumber, closeNumber}
-use Rattle.burst.specs.Recorder.{editionOf, isSound, beginRefusal, beginAnswer, beginBuffer, dropRefusal, dropAnswer, keepRefusal, keepAnswer, keepBuffer, closeRefusal, closeAnswer, closeBuffer}
+use Rattle.burst.specs.Recorder.{editionOf, isSound, beginRefusal, beginAnswer, beginBuffer, dropRefusal, dropAnswer}
+use Rattle.burst.specs.Recorder.{keepRefusal, keepAnswer, keepBuffer, closeRefusal, closeAnswer, closeBuffer}
 use Rattle.trace.specs.Plain.{Call, keepShot, dropShot, closeBurst}
 use Rattle.trace.specs.Trace.{nextRecorder, nextBuffer, answerTo}
 use Rattle.reader.specs.Verdicts.{verdictNumber}
@@ -34,7 +37,9 @@ use Rattle.reader.proofs.Marks.{SomeDiffers, seven, differing, agreeing, mark-c
 use Rattle.listing.specs.Listing.{listing, listRefusal, listAnswer, listOutput}
 use Rattle.listing.proofs.Lines.{listing-length}
 use Rattle.burst_c.specs.Calls.{checkInfoLength, fetchInfoLength, checkCallRefusal, checkCallInfo, fetchCallRefusal, fetchCallOutput, fetchCallInfo}
-use Rattle.claims.specs.Demand1.{Refusal, _on_, FirstOf, SealNumber, Seal, orderOfOpen, OpenNumber, NoRoomToOpen, Verify, Open, OpenCall, orderOfStart, StartNumber, Start, orderOfStrip, Strip, orderOfEnd, End, StartCall, StripCall, EndCall, Begin, Keep, Drop, Close, InList, orderOfCheck, Check, orderAtPlace, Record, NoRoomToFetch, Fetch, CheckCall, FetchCall, Print, Demand1}
+use Rattle.claims.specs.Demand1.{Refusal, _on_, FirstOf, SealNumber, Seal, orderOfOpen, OpenNumber, NoRoomToOpen, Verify, Open, OpenCall, orderOfStart}
+use Rattle.claims.specs.Demand1.{StartNumber, Start, orderOfStrip, Strip, orderOfEnd, End, StartCall, StripCall, EndCall, Begin, Keep, Drop, Close}
+use Rattle.claims.specs.Demand1.{InList, orderOfCheck, Check, orderAtPlace, Record, NoRoomToFetch, Fetch, CheckCall, FetchCall, Print, Demand1}
 use Rattle.claims.proofs.Orders.{Tells, differs, less, at-most, fails, holds, either, first, row, by-tests, NoZero, behind, then-tests}
 use Rattle.claims.proofs.Lists.{zero-or-not}
 

@@ -13,7 +13,8 @@ use Rattle.bytes_le.specs.Bytes.{Bytes}
 use Rattle.burst.specs.declared.Edition.{Edition}
 use Rattle.burst.specs.Parts.{keyLength, markLength}
 use Rattle.burst.specs.Layout.{Identity}
-use Rattle.trace.specs.Plain.{kept, gap, Plain, newBurst, noBurst, Way, Call, keepShot, dropShot, closeBurst, CallList, numberOf, accepted, afterCall, answerOf, afterCalls, answersOf, begun, plainOf, plainAnswers, beginNumberOf}
+use Rattle.trace.specs.Plain.{kept, gap, Plain, newBurst, noBurst, Way, Call, keepShot, dropShot, closeBurst, CallList, numberOf}
+use Rattle.trace.specs.Plain.{accepted, afterCall, answerOf, afterCalls, answersOf, begun, plainOf, plainAnswers, beginNumberOf}
 use Rattle.burst.proofs.Rules.{clash}
 use Rattle.burst.proofs.Numbers.{keeps, drops, begins}
 use Rattle.trace.specs.Agreement.{Reached}

@@ -21,7 +21,8 @@ use Rattle.burst.specs.Index.{entryOf}
 use Rattle.trace.specs.Plain.{Firing, kept, gap, pictures, usedBy, records, index}
 use Rattle.burst.proofs.Puts.{length-header}
 use Rattle.burst.proofs.Parts.{part-agrees, part-mark, part-body}
-use Rattle.reader.specs.Front.{editionIn, nameIn, allZero, restRules, editionNumberIn, takenIn, keptIn, droppedIn, pictureOffsetIn, indexOffsetIn, closingOffsetIn, totalIn, entryAt, entriesAt}
+use Rattle.reader.specs.Front.{editionIn, nameIn, allZero, restRules, editionNumberIn, takenIn, keptIn, droppedIn}
+use Rattle.reader.specs.Front.{pictureOffsetIn, indexOffsetIn, closingOffsetIn, totalIn, entryAt, entriesAt}
 use Rattle.reader.specs.declared.Verdict.the-variants.{Agree}
 use Rattle.reader.specs.Reader.{Part, recordPart, recordParts, agrees, markIn, bodyIn, sealedIn, verdictOn}
 use Rattle.reader.proofs.Parts.{parts-end, parts-next}

@@ -25,7 +25,8 @@ use Rattle.strips.specs.declared.StripState.{StripState}
 use Rattle.strips.specs.declared.StripAnswer.{StripAnswer}
 use Rattle.strips.specs.Answers.{startNumber, notStarted, startAnswer, startOutput, stripAnswer, stripOutput, endAnswer, endOutput}
 use Rattle.icepole_c.specs.Calls.{infoLength, openCallRefusal, openCallOutput, openCallInfo}
-use Rattle.icepole_c.specs.Strips.{stripStateLength, stripStateBytes, stripStateIn, startCallRefusal, startCallOutput, startCallState, stripCallRefusal, stripCallOutput, stripCallState, endCallRefusal, endCallOutput, endCallState}
+use Rattle.icepole_c.specs.Strips.{stripStateLength, stripStateBytes, stripStateIn, startCallRefusal, startCallOutput, startCallState}
+use Rattle.icepole_c.specs.Strips.{stripCallRefusal, stripCallOutput, stripCallState, endCallRefusal, endCallOutput, endCallState}
 use Rattle.burst.specs.declared.Recorder.{Recorder}
 use Rattle.burst.specs.Editions.{written}
 use Rattle.burst.specs.Parts.{keyLength, markLength}
@@ -35,7 +36,8 @@ use Rattle.burst.specs.Recorder.{editionOf, isSound, noRecorder, beginAnswer, b
 use Rattle.trace.specs.Plain.{Call}
 use Rattle.trace.specs.Trace.{nextRecorder, nextBuffer, answerTo}
 use Rattle.reader.specs.Front.{keptIn, entryAt, positionOf, frontRules}
-use Rattle.reader.specs.Reader.{closingPart, recordPart, agrees, notChecked, notFetched, checkMark, checkAnswer, recordRefusal, recordOffset, recordBytesIn, fetchAnswer, fetchOutput}
+use Rattle.reader.specs.Reader.{closingPart, recordPart, agrees, notChecked, notFetched, checkMark, checkAnswer}
+use Rattle.reader.specs.Reader.{recordRefusal, recordOffset, recordBytesIn, fetchAnswer, fetchOutput}
 use Rattle.listing.specs.declared.Listed.{Listed}
 use Rattle.listing.specs.Listing.{listing, textRoom, listRefusal, listAnswer, listOutput}
 use Rattle.burst_c.specs.Calls.{checkInfoLength, fetchInfoLength, checkCallRefusal, checkCallInfo, fetchCallRefusal, fetchCallOutput, fetchCallInfo}

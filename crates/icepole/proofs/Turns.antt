@@ -11,7 +11,8 @@ use Rattle.bytes_le.specs.Bytes.{Bytes, putBytes}
 use Rattle.permutation.specs.Permutation.{R}
 use Rattle.bytes_le.proofs.Laws.{put-put}
 use Rattle.icepole.specs.Sealing.{_⊕₈_, absorb, absorbAssociated, absorbMessage, decrypt, encrypt}
-use Rattle.icepole.proofs.Blocks.{associated-last, associated-more, checked-last, checked-more, decrypt-last, decrypt-more, encrypt-last, encrypt-more, message-last, message-more}
+use Rattle.icepole.proofs.Blocks.{associated-last, associated-more, checked-last, checked-more, decrypt-last}
+use Rattle.icepole.proofs.Blocks.{decrypt-more, encrypt-last, encrypt-more, message-last, message-more}
 use Rattle.icepole.proofs.Steps.{length-part}
 use Rattle.icepole.proofs.Xor.{length-xor}
 

@@ -19,7 +19,8 @@ use Rattle.reader.specs.declared.Verdict.{Verdict}
 use Rattle.reader.specs.declared.Verdict.the-variants.{Agree, Differs}
 use Rattle.reader.specs.Verdicts.{verdictNumber, verdictMark}
 use Rattle.reader.specs.Front.{headerIn, keptIn, indexOffsetIn, entryAt, positionOf, frontRules}
-use Rattle.reader.specs.Reader.{closingPart, recordPart, recordParts, agrees, markIn, bodyIn, sealedIn, verdictOn, verdict, notChecked, notFetched, fetchedAs, checkRefusal, checkMark, checkAnswer, recordRefusal, locateAnswer, recordOffset, recordBytesIn, fetchRefusal, fetchAnswer, fetchOutput}
+use Rattle.reader.specs.Reader.{closingPart, recordPart, recordParts, agrees, markIn, bodyIn, sealedIn, verdictOn, verdict, notChecked, notFetched, fetchedAs, checkRefusal}
+use Rattle.reader.specs.Reader.{checkMark, checkAnswer, recordRefusal, locateAnswer, recordOffset, recordBytesIn, fetchRefusal, fetchAnswer, fetchOutput}
 use Rattle.burst.specs.Parts.{keyLength}
 use Rattle.reader.proofs.Rules.{Front, front, InRange, in-range-at}
 use Rattle.reader.proofs.Parts.{agree, first-agrees, all-agree}

@@ -20,7 +20,8 @@ use Rattle.burst.specs.Index.{indexRules}
 use Rattle.burst.proofs.Rows.{numbered-known}
 use Rattle.burst.proofs.Rules.{and-true, Obeys, index-end, index-obeys, index-used}
 use Rattle.reader.specs.declared.Header.{Header}
-use Rattle.reader.specs.Front.{headerIn, editionNumberIn, takenIn, keptIn, droppedIn, pictureOffsetIn, indexOffsetIn, closingOffsetIn, totalIn, entryAt, entriesAt, editionIn, allZero, restRules, frontRulesOf, frontRules}
+use Rattle.reader.specs.Front.{headerIn, editionNumberIn, takenIn, keptIn, droppedIn, pictureOffsetIn, indexOffsetIn, closingOffsetIn}
+use Rattle.reader.specs.Front.{totalIn, entryAt, entriesAt, editionIn, allZero, restRules, frontRulesOf, frontRules}
 
 abbrev pub rulesIn : Edition → Bytes → Bool
 rulesIn e f = indexRules 0 (e .header) (takenIn f) (indexOffsetIn f) (entriesAt (keptIn f) (indexOffsetIn f) f)

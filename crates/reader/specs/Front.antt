@@ -10,7 +10,8 @@ use Rattle.burst.specs.declared.Entry.{Entry}
 use Rattle.reader.specs.declared.Header.{Header}
 use Rattle.burst.specs.declared.Edition.{Edition}
 use Rattle.burst.specs.declared.Name.{Name}
-use Rattle.burst.specs.Fields.{countWidth, offsetWidth, burstNumberWidth, editionAt, takenAt, keptAt, droppedAt, burstNumberAt, pictureOffsetAt, indexOffsetAt, closingOffsetAt, totalAt, fieldsLength, zerosAt, recordOffsetAt, pictureLengthAt, entryLength}
+use Rattle.burst.specs.Fields.{countWidth, offsetWidth, burstNumberWidth, editionAt, takenAt, keptAt, droppedAt, burstNumberAt, pictureOffsetAt}
+use Rattle.burst.specs.Fields.{indexOffsetAt, closingOffsetAt, totalAt, fieldsLength, zerosAt, recordOffsetAt, pictureLengthAt, entryLength}
 use Rattle.burst.specs.Editions.{numbered}
 use Rattle.burst.specs.Parts.{sealLength}
 use Rattle.burst.specs.Layout.{closingOffset}

@@ -42,7 +42,8 @@ ghost use Rattle.burst.specs.Parts.{sealLength, keyLength};
 ghost use Rattle.burst.specs.Layout.{maxPicture};
 ghost use Rattle.burst.specs.Index.{indexRules};
 ghost use Rattle.reader.specs.Front.{headerIn, keptIn, indexOffsetIn, entryAt, entriesAt, editionIn, nameIn, restRules, frontRules};
-ghost use Rattle.reader.specs.Reader.{closingPart, recordPart, recordParts, agrees, answerIn, markIn, bodyIn, verdictOn, notChecked, notFetched, fetchedAs, checkMark, checkAnswer, locateAnswer, recordRefusal, recordOffset, recordBytesIn, fetchAnswer, fetchOutput};
+ghost use Rattle.reader.specs.Reader.{closingPart, recordPart, recordParts, agrees, answerIn, markIn, bodyIn, verdictOn, notChecked, notFetched, fetchedAs};
+ghost use Rattle.reader.specs.Reader.{checkMark, checkAnswer, locateAnswer, recordRefusal, recordOffset, recordBytesIn, fetchAnswer, fetchOutput};
 ghost use Rattle.reader.specs.Verdicts.{verdictNumber, verdictMark};
 
 // What check answers: a refusal number with its mark, or what the file says.

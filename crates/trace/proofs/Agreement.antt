@@ -21,15 +21,19 @@ use Rattle.burst.specs.Parts.{markLength}
 use Rattle.burst.specs.Layout.{Identity, recordBytes, closingSeal}
 use Rattle.burst.specs.Numbers.{totalFrom, beginNumber}
 use Rattle.burst.specs.Index.{entryOf, indexRules, indexBytes}
-use Rattle.trace.specs.Plain.{Firing, kept, gap, pictures, gaps, usedBy, records, Plain, newBurst, noBurst, totalOf, headerOf, indexOf, fileOf, Way, Call, keepShot, dropShot, closeBurst, CallList, Answer, numberOf, accepted, valueOf, afterCall, answerOf, afterCalls, answersOf, begun, plainOf, plainAnswers, beginNumberOf}
-use Rattle.burst.specs.Recorder.{editionOf, nameOf, identityOf, isSound, newRecorder, noRecorder, beginRefusal, beginAnswer, beginBuffer, afterDrop, dropRefusal, dropAnswer, afterKeep, keepRefusal, keepAnswer, keepBuffer, recorderHeader, recorderIndex, recorderSeal, afterClose, closeRefusal, closeAnswer, closeBuffer}
+use Rattle.trace.specs.Plain.{Firing, kept, gap, pictures, gaps, usedBy, records, Plain, newBurst, noBurst, totalOf, headerOf}
+use Rattle.trace.specs.Plain.{indexOf, fileOf, Way, Call, keepShot, dropShot, closeBurst, CallList, Answer, numberOf, accepted}
+use Rattle.trace.specs.Plain.{valueOf, afterCall, answerOf, afterCalls, answersOf, begun, plainOf, plainAnswers, beginNumberOf}
+use Rattle.burst.specs.Recorder.{editionOf, nameOf, identityOf, isSound, newRecorder, noRecorder, beginRefusal, beginAnswer, beginBuffer, afterDrop, dropRefusal, dropAnswer, afterKeep}
+use Rattle.burst.specs.Recorder.{keepRefusal, keepAnswer, keepBuffer, recorderHeader, recorderIndex, recorderSeal, afterClose, closeRefusal, closeAnswer, closeBuffer}
 use Rattle.burst.proofs.Rows.{written-known}
 use Rattle.burst.proofs.Rules.{clash, sound-is}
 use Rattle.burst.proofs.Numbers.{keeps, drops, closes, keep-8, drop-8, close-8, begins}
 use Rattle.burst.proofs.Puts.{length-header}
 use Rattle.trace.specs.Trace.{nextRecorder, nextBuffer, answerTo, answersFrom, bufferFrom, runAnswers, runBuffer}
 use Rattle.trace.specs.Agreement.{Reached, Agrees, editionFor, Agreement}
-use Rattle.trace.proofs.Shots.{entries, Valid, valid-snoc, pictures-append, pictures-gaps, used-append, used-least, entries-append, records-append, index-entries, length-index, sound-entries, length-record, length-closing}
+use Rattle.trace.proofs.Shots.{entries, Valid, valid-snoc, pictures-append, pictures-gaps, used-append, used-least, entries-append}
+use Rattle.trace.proofs.Shots.{records-append, index-entries, length-index, sound-entries, length-record, length-closing}
 
 abbrev pub with : Plain → List Firing → Bool → Plain
 with p xs c = record { key = p .key; identity = p .identity; shots = xs; closed = c }
