@@ -11,9 +11,8 @@ use burst_calls::reading::{
 use burst_calls::recording::Recording;
 use burst_calls::script::script_of;
 use burst_calls::{check, fetch, list_front, record, replay};
-use reference::burst::reader::RecordPart;
 use reference::burst::Call;
-use reference::page::{self, damaged_copies, worked_file, Recorded};
+use reference::page::{self, damaged_copies, worked_file, worked_records, Recorded};
 
 fn counting(from: u8, length: u8) -> Vec<u8> {
     (0..length).map(|i| from + i).collect()
@@ -93,13 +92,7 @@ fn kept_pictures() {
         assert_eq!(info[..2], kept.shot.to_le_bytes());
         assert_eq!(info[2..6], (kept.picture.len() as u32).to_le_bytes());
         assert_eq!(info[6..], kept.stamp);
-        let part = RecordPart {
-            number: 0,
-            mark: 0,
-            offset: kept.offset,
-            length: kept.length,
-        };
-        assert_eq!(record(&key(), &file, kept.place), part, "{kept:?}");
+        assert_eq!(record(&key(), &file, kept.place), kept.record, "{kept:?}");
     }
 }
 
@@ -149,14 +142,9 @@ fn read() {
         assert_eq!(info[..6], [2, 0, 3, 0, 0, 0]);
         assert_eq!(info[6..], counting(0x20, 16));
     }
-    let part = |number, offset, length| RecordPart {
-        number,
-        mark: 0,
-        offset,
-        length,
-    };
-    assert_eq!(record(&key(), &file, 0), part(0, 32, 35));
-    assert_eq!(record(&key(), &file, 1), part(13, 0, 0));
+    for (place, part) in worked_records().into_iter().enumerate() {
+        assert_eq!(record(&key(), &file, place), part);
+    }
 }
 
 /// 5 and 13 have mark 0, and the output stays.

@@ -3,6 +3,7 @@
 //! own, and bytes within its text.
 
 use crate::burst::layout::ENTRY_BYTES;
+use crate::burst::reader::RecordPart;
 use crate::burst::{Answer, Call, Entry, Header};
 
 const PAGE: &str = include_str!("../../../docs/FORMAT.md");
@@ -66,6 +67,20 @@ pub fn text(name: &str) -> String {
 /// The first worked file.
 pub fn worked_file() -> Vec<u8> {
     bytes("file")
+}
+
+/// What record answers of it at places 0 and 1, by the page's text.
+pub fn worked_records() -> [RecordPart; 2] {
+    [record_part(0, 32, 35), record_part(13, 0, 0)]
+}
+
+fn record_part(number: u32, offset: usize, length: usize) -> RecordPart {
+    RecordPart {
+        number,
+        mark: 0,
+        offset,
+        length,
+    }
 }
 
 /// The text under a heading, down to the next one.
@@ -163,8 +178,7 @@ pub struct Kept {
     pub shot: u16,
     pub stamp: Vec<u8>,
     pub picture: Vec<u8>,
-    pub offset: usize,
-    pub length: usize,
+    pub record: RecordPart,
 }
 
 pub fn kept_pictures() -> Vec<Kept> {
@@ -173,8 +187,7 @@ pub fn kept_pictures() -> Vec<Kept> {
         shot: decimal(shot),
         stamp: run_of(stamp),
         picture: run_of(picture),
-        offset: decimal(offset),
-        length: decimal(length),
+        record: record_part(0, decimal(offset), decimal(length)),
     };
     rows("The second file").into_iter().map(kept).collect()
 }

@@ -10,9 +10,10 @@ use reference::burst::layout::{
 };
 use reference::burst::lister::{list, LONGEST_LISTED};
 use reference::burst::plain::{run, Call};
-use reference::burst::reader::{check, fetch, front, record, Checked, Fetched, RecordPart};
+use reference::burst::reader::{check, fetch, front, record, Checked, Fetched};
 use reference::burst::Refusal;
-use reference::page::{self, damaged_copies, worked_file, Damaged, FrontRow, Reading, Recorded};
+use reference::page::{self, damaged_copies, worked_file, worked_records};
+use reference::page::{Damaged, FrontRow, Reading, Recorded};
 use reference::permutation::{
     bits, words, State, OFFSETS, ROUND_CONSTANTS, STARTING_WORDS, ZERO_STATE,
 };
@@ -117,14 +118,9 @@ fn worked_file_is_read() {
     }
     assert_eq!(fetch(&key(), &file, 0, 2), Err(Refusal::unmarked(5)));
     assert_eq!(fetch(&key(), &file, 1, 3), Err(Refusal::unmarked(13)));
-    let part = |number, offset, length| RecordPart {
-        number,
-        mark: 0,
-        offset,
-        length,
-    };
-    assert_eq!(record(&key(), &file, 0), part(0, 32, 35));
-    assert_eq!(record(&key(), &file, 1), part(13, 0, 0));
+    for (place, part) in worked_records().into_iter().enumerate() {
+        assert_eq!(record(&key(), &file, place as u64), part);
+    }
 }
 
 /// The parts open alone, under the nonces and associated data that the page
@@ -243,13 +239,7 @@ fn second_file_is_read() {
         };
         assert_eq!(kept.place, at);
         assert_eq!(fetch(&key(), &file, at as u64, length), Ok(fetched));
-        let part = RecordPart {
-            number: 0,
-            mark: 0,
-            offset: kept.offset,
-            length: kept.length,
-        };
-        assert_eq!(record(&key(), &file, at as u64), part);
+        assert_eq!(record(&key(), &file, at as u64), kept.record);
     }
 }
 
