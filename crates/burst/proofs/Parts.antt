@@ -14,10 +14,10 @@ use Rattle.bytes_le.proofs.Laws.{put-part, put-put, put-whole, length-put}
 use Rattle.icepole.specs.declared.Opened.{Opened}
 use Rattle.icepole.specs.declared.Variant.the-variants.{Icepole128}
 use Rattle.icepole.specs.Variants.{sizes}
-use Rattle.icepole.specs.Sealing.{sealed, secretOf, messageOf}
+use Rattle.blocks.specs.Sealing.{sealed, secretOf, messageOf}
 use Rattle.icepole.specs.Answers.{tagAgrees, openedAnswer, sealRefusal, sealOutput, openRefusal, openAnswer, openOutput, fitsOutput}
 use Rattle.icepole.proofs.Numbers.{seal-0, open-0, open-decides}
-use Rattle.icepole.proofs.Opening.{opened, length-sealed, secret-of-sealed, message-of-sealed, tag-of-sealed, length-secret-of, length-message-of, seal-open}
+use Rattle.blocks.proofs.Opening.{opened, length-sealed, secret-of-sealed, message-of-sealed, tag-of-sealed, length-secret-of, length-message-of, seal-open}
 use Rattle.icepole.proofs.OpenedBytes.{secret-bytes, message-bytes}
 use Rattle.burst.specs.declared.Edition.{Edition}
 use Rattle.burst.specs.declared.Name.{Name}

@@ -9,8 +9,9 @@ use lib.ListN.{length, replicate}
 use Rattle.bytes_le.specs.Bytes.{Bytes, le, putBytes}
 use Rattle.icepole.specs.declared.Opened.{Opened}
 use Rattle.icepole.specs.declared.Variant.the-variants.{Icepole128}
-use Rattle.icepole.specs.Variants.{sizes, tagLength}
-use Rattle.icepole.specs.Sealing.{sealed, secretOf, messageOf}
+use Rattle.icepole.specs.Variants.{sizes}
+use Rattle.blocks.specs.Lengths.{tagLength}
+use Rattle.blocks.specs.Sealing.{sealed, secretOf, messageOf}
 use Rattle.icepole.specs.Answers.{tagAgrees, openedAnswer, unless}
 use Rattle.burst.specs.declared.Edition.{Edition}
 use Rattle.burst.specs.declared.Name.{Name}

@@ -1,4 +1,4 @@
--- What a turn of `load_le` does: the bytes are read from the highest down.
+-- What a turn of `load_bytes` does: the bytes are read from the highest down.
 -- Assumes nothing.
 use mathlib.Core.Path.{_≡_, sym, ap, ap₂, _∙_}
 use mathlib.Core.List.{_∷_}

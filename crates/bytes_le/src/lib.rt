@@ -1,4 +1,4 @@
-// Bytes put into a lent buffer, and numbers as little-endian bytes.
+// Bytes put into a lent buffer, and numbers as little-endian bytes. Internal: only crates of ours call these functions.
 ghost use mathlib.Core.Path.{_≡_};
 ghost use Prim.Native.Nat.{_+_, _≤_, _<_, _^_};
 ghost use lib.ListN.{length, take, drop};
@@ -17,8 +17,8 @@ pub fn put_bytes(out: &mut [u8], at: usize, src: &[u8]) -> usize
     at + j
 }
 
-// Puts the n low bytes of x into out from index at on; returns the index behind them.
-pub fn store_le(out: &mut [u8], at: usize, n: usize, x: u64) -> usize
+// Puts the n low bytes of x into out from index at on, byte by byte; returns the index behind them.
+fn store_bytes(out: &mut [u8], at: usize, n: usize, x: u64) -> usize
     requires { ⌜ at + n ≤ length (now out) ⌝ }
     ensures { λ r. ⌜ (r ≡ at + n) × (now (out .exit) ≡ putBytes (now (out .entry)) at (le n x)) ⌝ }
 {
@@ -32,8 +32,8 @@ pub fn store_le(out: &mut [u8], at: usize, n: usize, x: u64) -> usize
     at + n
 }
 
-// The number whose n bytes stand in b from index at on.
-pub fn load_le(b: &[u8], at: usize, n: usize) -> u64
+// The number whose n bytes stand in b from index at on, byte by byte.
+fn load_bytes(b: &[u8], at: usize, n: usize) -> u64
     requires { ⌜ (n ≤ 8) × (at + n ≤ length (now b)) ⌝ }
     ensures { λ r. ⌜ (r ≡ leAt n (now (b .entry)) at) × (le n r ≡ take n (drop at (now (b .entry)))) × (r < 256 ^ n) ⌝ }
 {
@@ -46,17 +46,39 @@ pub fn load_le(b: &[u8], at: usize, n: usize) -> u64
     x
 }
 
-// The same for all eight bytes of a word.
+// All eight bytes of a word: with the count known to the compiler they are one store, and one load.
 pub fn store_u64(out: &mut [u8], at: usize, x: u64) -> usize
     requires { ⌜ at + 8 ≤ length (now out) ⌝ }
     ensures { λ r. ⌜ (r ≡ at + 8) × (now (out .exit) ≡ putBytes (now (out .entry)) at (le 8 x)) ⌝ }
 {
-    store_le(out, at, 8, x)
+    store_bytes(out, at, 8, x)
 }
 
 pub fn load_u64(b: &[u8], at: usize) -> u64
     requires { ⌜ at + 8 ≤ length (now b) ⌝ }
     ensures { λ r. ⌜ (r ≡ unle (take 8 (drop at (now (b .entry))))) × (le 8 r ≡ take 8 (drop at (now (b .entry)))) ⌝ }
 {
-    load_le(b, at, 8)
+    load_bytes(b, at, 8)
+}
+
+// Puts the n low bytes of x into out from index at on; returns the index behind them. All eight are one store.
+pub fn store_le(out: &mut [u8], at: usize, n: usize, x: u64) -> usize
+    requires { ⌜ at + n ≤ length (now out) ⌝ }
+    ensures { λ r. ⌜ (r ≡ at + n) × (now (out .exit) ≡ putBytes (now (out .entry)) at (le n x)) ⌝ }
+{
+    if n == 8 {
+        return store_bytes(out, at, 8, x);
+    }
+    store_bytes(out, at, n, x)
+}
+
+// The number whose n bytes stand in b from index at on. All eight are one load.
+pub fn load_le(b: &[u8], at: usize, n: usize) -> u64
+    requires { ⌜ (n ≤ 8) × (at + n ≤ length (now b)) ⌝ }
+    ensures { λ r. ⌜ (r ≡ leAt n (now (b .entry)) at) × (le n r ≡ take n (drop at (now (b .entry)))) × (r < 256 ^ n) ⌝ }
+{
+    if n == 8 {
+        return load_bytes(b, at, 8);
+    }
+    load_bytes(b, at, n)
 }

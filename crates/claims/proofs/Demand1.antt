@@ -12,8 +12,9 @@ use lib.ListN.{length, drop}
 use Rattle.bytes_le.specs.Bytes.{Bytes}
 use Rattle.icepole.specs.declared.Variant.{Variant}
 use Rattle.icepole.specs.declared.Variant.the-variants.{Icepole128}
-use Rattle.icepole.specs.Variants.{sizes, tagLength}
-use Rattle.icepole.specs.Answers.{maxLength, tagAgrees, fitsOutput, sealNumber, openNumber, sealRefusal, sealAnswer, sealOutput, openRefusal, openAnswer, openOutput}
+use Rattle.icepole.specs.Variants.{sizes}
+use Rattle.blocks.specs.Lengths.{tagLength, maxLength}
+use Rattle.icepole.specs.Answers.{tagAgrees, fitsOutput, sealNumber, openNumber, sealRefusal, sealAnswer, sealOutput, openRefusal, openAnswer, openOutput}
 use Rattle.strips.specs.declared.StripState.{StripState}
 use Rattle.strips.specs.Answers.{startNumber, stripNumber, endNumber, startRefusal, startAnswer, startOutput}
 use Rattle.strips.specs.Answers.{stripRefusal, stripAnswer, stripOutput, endRefusal, endAnswer, endOutput}

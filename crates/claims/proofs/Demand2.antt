@@ -11,15 +11,15 @@ use mathlib.Core.List.{[], _++_}
 use Rattle.bytes_le.specs.Bytes.{Bytes, le, putBytes}
 use Rattle.bytes_le.proofs.Laws.{take-put}
 use Rattle.icepole.specs.Answers.{fitsOutput, openAnswer, openLength, openNumber, openOutput, openRefusal, openedAnswer, sealAnswer, sealOutput, sealRefusal, tagAgrees, unless}
-use Rattle.icepole.specs.Bounds.{Bounded}
-use Rattle.icepole.specs.Sealing.{expectedTag, messageOf, same, sealed, secretOf, tagPart}
+use Rattle.blocks.specs.Bounds.{Bounded}
+use Rattle.blocks.specs.Sealing.{expectedTag, messageOf, same, sealed, secretOf, tagPart}
 use Rattle.icepole.specs.Variants.{sizes}
 use Rattle.icepole.specs.declared.Variant.{Variant}
 use Rattle.icepole.specs.declared.Opened.{Opened}
 use Rattle.icepole.proofs.Bounds.{bounded}
 use Rattle.icepole.proofs.Numbers.{OpenFits, open-0, open-fits, seal-0}
 use Rattle.icepole.proofs.OpenedBytes.{message-bytes, secret-bytes}
-use Rattle.icepole.proofs.Opening.{length-message-of, length-sealed, length-secret-of, message-of-sealed, opened, seal-open, secret-of-sealed, tag-of-sealed}
+use Rattle.blocks.proofs.Opening.{length-message-of, length-sealed, length-secret-of, message-of-sealed, opened, seal-open, secret-of-sealed, tag-of-sealed}
 use Rattle.icepole_c.specs.Calls.{openCallInfo, openCallOutput, openCallRefusal, fitsBoth}
 use Rattle.claims.specs.Demand2.{Demand2, GenuineMessage, Within, openDone, sealDone}
 

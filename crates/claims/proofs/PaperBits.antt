@@ -14,13 +14,13 @@ use lib.Pow.{shr-shr}
 use lib.Seq.{getD-take, getD-drop, getD-append-seam}
 use Rattle.bits.specs.Bits.{bit, _⊕_}
 use Rattle.bytes_le.specs.Bytes.{Bytes, AllBytes, le, leAt, unle}
-use Rattle.icepole.specs.Sealing.{_⊕₈_, pad, xorWith}
+use Rattle.blocks.specs.Sealing.{_⊕₈_, pad, xorWith}
 use Rattle.permutation.specs.State.{at, state, tabulate}
-use Rattle.state_bytes.specs.StateBytes.{bytesOf, column, stateOf, wordOf}
+use Rattle.state_bytes.specs.StateBytes.{Shape, bytesOf, column, stateOf, wordOf}
 use Rattle.bits.proofs.Cases.{two}
 use Rattle.bits.proofs.Laws.{bit-low, bit-shr, bit-xor}
 use Rattle.bytes_le.proofs.All.{all-take, all-drop}
-use Rattle.state_bytes.proofs.Words.{Shape, bytes-word}
+use Rattle.state_bytes.proofs.Words.{bytes-word}
 use Rattle.claims.specs.PaperBits.{PaperBits, bitOf}
 
 -- ---- the bytes of a number

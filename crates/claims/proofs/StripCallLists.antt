@@ -11,7 +11,8 @@ use lib.ListN.{length, take, drop, getD, length-append}
 use lib.Seq.{take-at, drop-at, getD-append-seam}
 use Rattle.bytes_le.specs.Bytes.{Bytes, putBytes, le, leAt, unle}
 use Rattle.bytes_le.proofs.Laws.{put-front, unle-8}
-use Rattle.icepole.specs.Answers.{maxLength, unless}
+use Rattle.icepole.specs.Answers.{unless}
+use Rattle.blocks.specs.Lengths.{maxLength}
 use Rattle.strips.specs.declared.StripState.{StripState}
 use Rattle.strips.specs.declared.StripAnswer.{StripAnswer}
 use Rattle.strips.specs.Answers.{endAnswer, endOutput, endRefusal, heldIn, notStarted, startAnswer, startOutput, started, stripAnswer, stripOutput}

@@ -14,11 +14,12 @@ use Rattle.bytes_le.proofs.Laws.{take-put}
 use Rattle.state_bytes.proofs.Lengths.{length-permuted}
 use Rattle.icepole.specs.declared.Variant.the-variants.{Icepole128}
 use Rattle.icepole.specs.Variants.{sizes}
-use Rattle.icepole.specs.Sealing.{_⊕₈_, finish, keyed, ready, sealed}
-use Rattle.icepole.specs.Answers.{maxLength, unless}
+use Rattle.blocks.specs.Sealing.{_⊕₈_, finish, keyed, ready, sealed}
+use Rattle.icepole.specs.Answers.{unless}
+use Rattle.blocks.specs.Lengths.{maxLength}
 use Rattle.icepole.proofs.Numbers.{SealFits}
-use Rattle.icepole.proofs.Opening.{length-keyed, length-ready}
-use Rattle.icepole.proofs.Xor.{length-xor}
+use Rattle.blocks.proofs.Opening.{length-keyed, length-ready}
+use Rattle.blocks.proofs.Xor.{length-xor}
 use Rattle.strips.specs.declared.StripState.{StripState}
 use Rattle.strips.specs.declared.StripAnswer.{StripAnswer}
 use Rattle.strips.specs.Machine.{Held, held, ended, fed, fedBytes, fillOf}

@@ -19,8 +19,9 @@ use Rattle.icepole.specs.declared.Variant.{Variant}
 use Rattle.icepole.specs.declared.Variant.the-variants.{Icepole128}
 use Rattle.icepole.specs.declared.Sealed.{Sealed}
 use Rattle.icepole.specs.declared.Opened.{Opened}
-use Rattle.icepole.specs.Variants.{sizes, tagLength, maxSecret}
-use Rattle.icepole.specs.Answers.{maxLength, tagAgrees, sealNumber, sealRefusal, sealAnswer, sealOutput, openNumber, fitsOutput, openAnswer, openOutput}
+use Rattle.icepole.specs.Variants.{sizes}
+use Rattle.blocks.specs.Lengths.{tagLength, maxSecret, maxLength}
+use Rattle.icepole.specs.Answers.{tagAgrees, sealNumber, sealRefusal, sealAnswer, sealOutput, openNumber, fitsOutput, openAnswer, openOutput}
 use Rattle.strips.specs.declared.StripState.{StripState}
 use Rattle.strips.specs.declared.StripAnswer.{StripAnswer}
 use Rattle.strips.specs.Answers.{startNumber, notStarted, startAnswer, startOutput, stripAnswer, stripOutput, endAnswer, endOutput}

@@ -13,9 +13,10 @@ use Rattle.bytes_le.specs.Bytes.{Bytes, AllBytes, le, putBytes}
 use Rattle.icepole.specs.declared.Variant.{Variant}
 use Rattle.icepole.specs.declared.Sealed.{Sealed}
 use Rattle.icepole.specs.declared.Opened.{Opened}
-use Rattle.icepole.specs.Variants.{sizes, tagLength}
-use Rattle.icepole.specs.Sealing.{sealed}
-use Rattle.icepole.specs.Answers.{maxLength, noSecret, sealAnswer, sealOutput, openedAnswer, openRefusal, openAnswer, openOutput, fitsOutput}
+use Rattle.icepole.specs.Variants.{sizes}
+use Rattle.blocks.specs.Lengths.{tagLength, maxLength}
+use Rattle.blocks.specs.Sealing.{sealed}
+use Rattle.icepole.specs.Answers.{noSecret, sealAnswer, sealOutput, openedAnswer, openRefusal, openAnswer, openOutput, fitsOutput}
 use Rattle.icepole_c.specs.Calls.{infoLength, openCallRefusal, openCallOutput, openCallInfo}
 
 -- key, nonce and secret number have the variant's lengths, and the data is within the limits

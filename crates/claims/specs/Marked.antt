@@ -12,7 +12,7 @@ use Rattle.bytes_le.specs.Bytes.{Bytes}
 use Rattle.permutation.specs.State.{Grid, State, setWord, state}
 use Rattle.permutation.specs.Permutation.{μ, ρ, π, sbox}
 use Rattle.state_bytes.specs.StateBytes.{stateLength, stateOf}
-use Rattle.icepole.specs.Sealing.{xorWith, pad}
+use Rattle.blocks.specs.Sealing.{xorWith, pad}
 use Rattle.icepole.specs.declared.Variant.the-variants.{Icepole128}
 use Rattle.icepole.specs.Variants.{sizes}
 use Rattle.icepole.specs.Answers.{sealNumber, openNumber}

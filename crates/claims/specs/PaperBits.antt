@@ -10,7 +10,7 @@ use Rattle.bits.specs.Bits.{bit, _⊕_}
 use Rattle.bytes_le.specs.Bytes.{Bytes, AllBytes}
 use Rattle.permutation.specs.State.{at, state}
 use Rattle.state_bytes.specs.StateBytes.{bytesOf, stateOf}
-use Rattle.icepole.specs.Sealing.{_⊕₈_, xorWith, pad}
+use Rattle.blocks.specs.Sealing.{_⊕₈_, xorWith, pad}
 
 -- bit i of a run of bytes; past its end there are zeros
 abbrev pub bitOf : Bytes → ℕ → Bool

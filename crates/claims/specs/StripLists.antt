@@ -22,9 +22,10 @@ use Rattle.bits.specs.Bits.{wordRange}
 use Rattle.bytes_le.specs.Bytes.{Bytes, putBytes}
 use Rattle.state_bytes.specs.StateBytes.{stateLength}
 use Rattle.icepole.specs.declared.Variant.the-variants.{Icepole128}
-use Rattle.icepole.specs.Variants.{sizes, tagLength}
-use Rattle.icepole.specs.Sealing.{sealed}
-use Rattle.icepole.specs.Answers.{maxLength, unless, given}
+use Rattle.icepole.specs.Variants.{sizes}
+use Rattle.blocks.specs.Lengths.{tagLength, maxLength}
+use Rattle.blocks.specs.Sealing.{sealed}
+use Rattle.icepole.specs.Answers.{unless, given}
 use Rattle.strips.specs.declared.StripState.{StripState}
 use Rattle.strips.specs.declared.StripAnswer.{StripAnswer}
 use Rattle.strips.specs.Answers.{startAnswer, startOutput, stripAnswer, stripOutput, endAnswer, endOutput, startRefusal, stripNumber, endNumber}

@@ -3,20 +3,22 @@
 use mathlib.Core.Path.{_≡_, refl, sym, ap, ap₂, _∙_}
 use mathlib.Core.Bool.{Bool, true, false, cond, not}
 use mathlib.Core.List.{[], _++_}
-use Prim.Native.Nat.{ℕ, zero, suc, _+_, _-_}
+use Prim.Native.Nat.{ℕ, zero, suc, _+_, _-_, _*_, _/_}
 use native.Mathlib.Omega.{arith}
 use borrow.Author.Tests.{ne-eqb}
 use lib.Dec.{leb}
-use lib.ListN.{length, replicate, length-append}
+use lib.ListN.{length, replicate, take, drop, length-append}
 use Rattle.bytes_le.specs.Bytes.{Bytes, putBytes}
 use Rattle.bytes_le.proofs.Loads.{fits}
 use Rattle.icepole.specs.Answers.{fitsOutput, openAnswer, openLength, openNumber, openOutput, openRefusal, openedAnswer, tagAgrees}
 use Rattle.icepole.specs.Answers.{sealAnswer, sealNumber, sealOutput, sealRefusal, sealedAnswer}
-use Rattle.icepole.specs.Sealing.{messageOf, sealed, secretOf}
+use Rattle.blocks.specs.Bounds.{Bounded}
+use Rattle.blocks.specs.Sealing.{decrypt, expectedTag, messageOf, readyOf, same, sealed, secretOf, tagPart}
 use Rattle.icepole.specs.Variants.{sizes}
 use Rattle.icepole.specs.declared.Opened.{Opened}
-use Rattle.icepole.specs.declared.Sizes.{Sizes}
+use Rattle.blocks.specs.declared.Sizes.{Sizes}
 use Rattle.icepole.specs.declared.Variant.{Variant}
+use Rattle.blocks.proofs.Whole.{whole}
 use Rattle.icepole.proofs.Numbers.{OpenFits, open-decides, open-fits, open-stands}
 
 -- ---- sealing
@@ -123,3 +125,20 @@ pub answer-by : (v : Variant) (q : Sizes) → q ≡ sizes v → (k n a c o : Byt
     → (r : Opened) → r ≡ openAnswer v k n a c b → r ≡ openAnswer v k n a c (fitsOutput v c o)
 answer-by v q eq k n a c o b eb r er =
     er ∙ ap (openAnswer v k n a c) (eb ∙ ap (λ (q : Sizes). leb (length c - (q .secret + 16)) (length o)) eq)
+
+-- ---- what opening is made of, in the terms of the code
+-- the message, in the terms of the code: u is the state after the associated data, and o′ the output after it
+pub message-by : (v : Variant) (q : Sizes) → q ≡ sizes v → Bounded q → (k n a c u o o′ : Bytes) (l : ℕ)
+    → u ≡ readyOf (sizes v) k n a c → l ≡ length c - (sizes v .secret + 16)
+    → o′ ≡ putBytes o 0 (decrypt (8 * (q .block / 8)) u (take l (drop (q .secret) c)))
+    → o′ ≡ putBytes o 0 (messageOf (sizes v) k n a c)
+unfolding messageOf
+message-by v q eq hq k n a c u o o′ l eu el e =
+    e ∙ ap (λ (r : ℕ). putBytes o 0 (decrypt r u (take l (drop (q .secret) c)))) (whole q hq)
+    ∙ ap (λ (q : Sizes). putBytes o 0 (decrypt (q .block) u (take l (drop (q .secret) c)))) eq
+    ∙ ap₂ (λ (u : Bytes) (l : ℕ). putBytes o 0 (decrypt (sizes v .block) u (take l (drop (sizes v .secret) c)))) eu el
+
+pub agrees-by : (v : Variant) (q : Sizes) → q ≡ sizes v → (k n a c : Bytes) (b : Bool) → b ≡ same (expectedTag q k n a c) (tagPart c)
+    → b ≡ tagAgrees (sizes v) k n a c
+unfolding tagAgrees
+agrees-by v q eq k n a c b eb = eb ∙ ap (λ (q : Sizes). tagAgrees q k n a c) eq

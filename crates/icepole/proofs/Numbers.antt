@@ -7,8 +7,9 @@ use native.Mathlib.Omega.{arith}
 use borrow.Author.Tests.{eq-eqb, ne-eqb, lt-ltb, le-ltb, ltb-false, eqb-true, not-false}
 use lib.Dec.{eqb, ltb}
 use Rattle.bytes_le.proofs.Loads.{fits}
-use Rattle.icepole.specs.Answers.{maxLength, openNumber, sealNumber}
-use Rattle.icepole.specs.declared.Sizes.{Sizes}
+use Rattle.icepole.specs.Answers.{openNumber, sealNumber}
+use Rattle.blocks.specs.Lengths.{maxLength}
+use Rattle.blocks.specs.declared.Sizes.{Sizes}
 
 -- ---- sealing
 module _ (q : Sizes) (k n s a m o : ℕ) where

@@ -9,9 +9,9 @@ use Rattle.permutation.specs.Permutation.{P}
 use Rattle.permutation.specs.State.{State}
 use Rattle.state_bytes.specs.StateBytes.{bytesBelow, bytesOf, permuted, stateOf, wordOf}
 use Rattle.bytes_le.proofs.All.{all-append, all-drop, all-le, all-take}
-use Rattle.icepole.specs.Sealing.{_⊕₈_, absorb, absorbAssociated, absorbBlocks, blocksBefore, decrypt, decryptBlocks, keyed, messageOf, messagePart, pad}
-use Rattle.icepole.specs.Sealing.{ready, readyOf, secretOf, secretPart, xorWith}
-use Rattle.icepole.specs.declared.Sizes.{Sizes}
+use Rattle.blocks.specs.Sealing.{_⊕₈_, absorb, absorbAssociated, absorbBlocks, blocksBefore, decrypt, decryptBlocks, keyed, messageOf, messagePart, pad}
+use Rattle.blocks.specs.Sealing.{ready, readyOf, secretOf, secretPart, xorWith}
+use Rattle.blocks.specs.declared.Sizes.{Sizes}
 
 all-below : (s : State) (w : ℕ) → AllBytes (bytesBelow s w)
 all-below s zero = tt

@@ -6,12 +6,13 @@ use Prim.Native.Nat.{ℕ, _+_, _-_}
 use lib.Dec.{eqb, leb, ltb}
 use lib.ListN.{length, replicate}
 use Rattle.bytes_le.specs.Bytes.{Bytes, putBytes}
-use Rattle.icepole.specs.declared.Sizes.{Sizes}
+use Rattle.blocks.specs.declared.Sizes.{Sizes}
+use Rattle.blocks.specs.Lengths.{tagLength, maxSecret, maxLength}
+use Rattle.blocks.specs.Sealing.{same, sealed, secretOf, messageOf, expectedTag, tagPart}
 use Rattle.icepole.specs.declared.Variant.{Variant}
 use Rattle.icepole.specs.declared.Sealed.{Sealed}
 use Rattle.icepole.specs.declared.Opened.{Opened}
-use Rattle.icepole.specs.Variants.{sizes, tagLength, maxSecret}
-use Rattle.icepole.specs.Sealing.{same, sealed, secretOf, messageOf, expectedTag, tagPart}
+use Rattle.icepole.specs.Variants.{sizes}
 
 -- a condition and its refusal number
 pub record Condition : Type 0 where
@@ -26,10 +27,6 @@ n when b = record { holds = b; number = n }
 abbrev pub refusal : List Condition → ℕ
 refusal [] = 0
 refusal (c ∷ cs) = cond (c .holds) (c .number) (refusal cs)
-
--- associated data and message are at most so many bytes each
-abbrev pub maxLength : ℕ
-maxLength = 67108864
 
 -- ---- the numbers, from the lengths of what is lent
 -- k key, n nonce, s secret number, a associated data (both parts), m message, o output

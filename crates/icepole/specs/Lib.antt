@@ -1,4 +1,2 @@
 pub mod Variants
-pub mod Sealing
 pub mod Answers
-pub mod Bounds

@@ -1,7 +1,6 @@
 -- The three variants (003, 2.2, 2.7, 2.10 and 2.11; 01, "Sealing and opening").
 -- Assumes nothing.
-use Prim.Native.Nat.{ℕ}
-use Rattle.icepole.specs.declared.Sizes.{Sizes}
+use Rattle.blocks.specs.declared.Sizes.{Sizes}
 use Rattle.icepole.specs.declared.Variant.{Variant}
 use Rattle.icepole.specs.declared.Variant.the-variants.{Icepole128, Icepole128a, Icepole256a}
 
@@ -10,17 +9,3 @@ abbrev pub sizes : Variant → Sizes
 sizes Icepole128 = record { key = 16; nonce = 16; secret = 16; block = 128 }
 sizes Icepole128a = record { key = 16; nonce = 12; secret = 0; block = 128 }
 sizes Icepole256a = record { key = 32; nonce = 12; secret = 0; block = 120 }
-
--- the tag's bytes, under every variant
-abbrev pub tagLength : ℕ
-tagLength = 16
-
--- the longest key, nonce and secret number
-abbrev pub maxKey : ℕ
-maxKey = sizes Icepole256a .key
-
-abbrev pub maxNonce : ℕ
-maxNonce = sizes Icepole128 .nonce
-
-abbrev pub maxSecret : ℕ
-maxSecret = sizes Icepole128 .secret

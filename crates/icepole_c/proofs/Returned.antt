@@ -11,17 +11,17 @@ use lib.ListN.{length, take, replicate}
 use lib.Seq.{length-take-le}
 use Rattle.bytes_le.specs.Bytes.{Bytes, le, putBytes}
 use Rattle.icepole.specs.Answers.{fitsOutput, openAnswer, openNumber, openOutput, openedAnswer, sealAnswer, sealRefusal, unless}
-use Rattle.icepole.specs.Sealing.{secretOf}
+use Rattle.blocks.specs.Sealing.{secretOf}
 use Rattle.icepole.specs.Variants.{sizes}
 use Rattle.icepole.specs.declared.Opened.{Opened}
 use Rattle.icepole.specs.declared.Sealed.{Sealed}
-use Rattle.icepole.specs.declared.Sizes.{Sizes}
+use Rattle.blocks.specs.declared.Sizes.{Sizes}
 use Rattle.icepole.specs.declared.Variant.{Variant}
 use Rattle.bytes_le.proofs.Laws.{length-put, put-put}
 use Rattle.icepole.proofs.Answers.{open-given, open-refused, open-stays, open-tells}
 use Rattle.icepole.proofs.Bounds.{bounded}
 use Rattle.icepole.proofs.Numbers.{open-fits}
-use Rattle.icepole.proofs.Opening.{length-secret-of}
+use Rattle.blocks.proofs.Opening.{length-secret-of}
 use Rattle.icepole_c.specs.Calls.{OpenContract, openCallAnswer, openCallInfo, openCallOutput, openCallRefusal, fitsBoth}
 
 pub seal-refusal : (v : Variant) (k n s a m o : Bytes) (r : Sealed) → r ≡ sealAnswer v k n s a m o → r .refusal ≡ sealRefusal v k n s a m o

@@ -1,20 +1,25 @@
 -- The C calls of strips: the state as bytes, and what each call returns and leaves.
 -- Assumes nothing.
 use mathlib.Core.Path.{_≡_, refl, sym, ap, _∙_}
-use mathlib.Core.List.{_++_, append-assoc}
+use mathlib.Core.List.{_∷_, _++_, append-assoc}
 use mathlib.Core.Bool.{Bool, true, false, cond, not}
 use Prim.Native.Nat.{ℕ, zero, suc, _+_, _≤_, _<_}
 use native.Mathlib.Omega.{arith}
-use borrow.Author.Tests.{ne-eqb, le-ltb, lt-ltb}
+use borrow.Author.Tests.{eqb-true, ne-eqb, not-false, le-ltb, lt-ltb}
 use lib.Dec.{eqb, ltb}
-use lib.ListN.{length, length-append}
-use Rattle.bytes_le.specs.Bytes.{Bytes, putBytes, le}
-use Rattle.bytes_le.proofs.Laws.{put-put}
+use lib.ListN.{length, take, drop, getD, length-append, take-append-drop}
+use lib.Seq.{drop-cons, length-take-le}
+use Rattle.bytes_le.specs.Bytes.{Bytes, putBytes, le, unle, leAt}
+use Rattle.bytes_le.proofs.Laws.{put-front, put-put}
 use Rattle.icepole.specs.Answers.{unless}
 use Rattle.strips.specs.declared.StripState.{StripState}
 use Rattle.strips.specs.declared.StripAnswer.{StripAnswer}
-use Rattle.strips.specs.Answers.{startAnswer, startOutput, startRefusal, stripAnswer, stripOutput, stripRefusal, endAnswer, endOutput, endRefusal}
-use Rattle.icepole_c.specs.Strips.{stripStateLength, stripStateBytes, stripStateIn, StartContract, StripContract, EndContract}
+use Rattle.strips.specs.Machine.{held, fed, fedBytes, fillOf}
+use Rattle.strips.specs.Answers.{startAnswer, startOutput, startRefusal, stripAnswer, stripNumber, stripOutput, stripRefusal, endAnswer, endOutput, endRefusal, block}
+use Rattle.strips.proofs.Answers as answers
+use Rattle.strips.proofs.Machine.{length-fed-state}
+use Rattle.strips.proofs.Numbers.{strip-fits}
+use Rattle.icepole_c.specs.Strips.{countAt, stripStateLength, stripStateBytes, stripStateIn, StartContract, StripContract, EndContract}
 use Rattle.icepole_c.specs.Strips.{startCallRefusal, startCallOutput, startCallState, stripCallRefusal, stripCallOutput, stripCallState}
 use Rattle.icepole_c.specs.Strips.{endCallRefusal, endCallOutput, endCallState}
 
@@ -60,21 +65,62 @@ pub strip-short : (st m o : Bytes) → length st < stripStateLength → StripCon
 unfolding stripCallRefusal stripCallState stripCallOutput stripAnswer
 strip-short st m o = short st o (stripAnswer (stripStateIn st) m o) (stripOutput (stripStateIn st) m o)
 
--- s is the state that the code read
-module _ (st m o : Bytes) (h : stripStateLength ≤ length st) (s : StripState) (es : s ≡ stripStateIn st)
-    (r : StripAnswer) (er : r ≡ stripAnswer s m o) (o′ : Bytes) (eo : o′ ≡ stripOutput s m o) where
-  pub strip-refused : (r .refusal ≡ 0 → ⊥) → StripContract st m o (r .refusal) st o′
-  unfolding stripCallRefusal stripCallState stripCallOutput stripAnswer stripOutput
-  strip-refused =
-      refused st o (stripAnswer (stripStateIn st) m o) (stripOutput (stripStateIn st) m o) h
-      r (er ∙ ap (λ (s : StripState). stripAnswer s m o) es) o′ (eo ∙ ap (λ (s : StripState). stripOutput s m o) es)
-      (λ g. simp (ne-eqb (stripRefusal (stripStateIn st) m o) 0 g) refl)
+-- a strip's state: what it was fed, then the count, stand where the others stood; the last byte was 0 already
+state-fed : (st b st₁ st₂ : Bytes) (n : ℕ) → stripStateLength ≤ length st → length b ≡ 160 → getD st 168 0 ≡ 0 → st₁ ≡ b ++ drop 160 st
+    → st₂ ≡ putBytes st₁ 160 (le 8 n) → st₂ ≡ putBytes st 0 (b ++ (le 8 n ++ le 1 0))
+state-fed st b st₁ st₂ n h hb z e₁ e₂ =
+    let v : Bytes = b ++ le 8 n in
+    let w : Bytes = v ++ le 1 0 in
+    let lv : length v ≡ 168 = length-append b (le 8 n) ∙ ap (λ (k : ℕ). k + 8) hb in
+    let lw : length w ≡ 169 = length-append v (le 1 0) ∙ ap (λ (k : ℕ). k + 1) lv in
+    e₂
+    ∙ ap (λ (s : Bytes). putBytes s 160 (le 8 n)) (e₁ ∙ ap (λ (k : ℕ). b ++ drop k st) (sym hb) ∙ sym (put-front st b))
+    ∙ put-put st 0 b (le 8 n) 160 (omega arith) (omega arith)
+    ∙ put-front st v
+    ∙ ap (λ (k : ℕ). v ++ drop k st) lv
+    ∙ ap (λ (l : Bytes). v ++ l) (drop-cons st 168 0 (omega arith) ∙ ap (λ (x : ℕ). x ∷ drop 169 st) z)
+    ∙ sym (append-assoc v (le 1 0) (drop 169 st))
+    ∙ ap (λ (k : ℕ). w ++ drop k st) (sym lw)
+    ∙ sym (put-front st w)
+    ∙ ap (putBytes st 0) (append-assoc b (le 8 n) (le 1 0))
 
-  pub strip-done : r .refusal ≡ 0 → (st′ : Bytes) → st′ ≡ putBytes st 0 (stripStateBytes (r .state)) → StripContract st m o 0 st′ o′
+-- n is the count, and num the number, that the code found; b is what it left of the state's own bytes, st₁ of the state, and o′ of the output
+module _ (st m o : Bytes) (h : stripStateLength ≤ length st) (n : ℕ) (en : n ≡ unle (take 8 (drop countAt st))) (num : ℕ)
+    (e : num ≡ stripNumber (stripStateIn st .finished) n (length m) (length o)) (b st₁ o′ : Bytes)
+    (eb : b ≡ unless num (take 160 st) (fed block (held (take 160 st) (fillOf block n)) m .state)) (e₁ : st₁ ≡ b ++ drop 160 st)
+    (eo : o′ ≡ unless num o (putBytes o 0 (fedBytes block (held (take 160 st) (fillOf block n)) m))) where
+  is-count : n ≡ stripStateIn st .count
+  unfolding leAt
+  is-count = en
+
+  is-number : num ≡ stripNumber (stripStateIn st .finished) (stripStateIn st .count) (length m) (length o)
+  is-number = e ∙ ap (λ (n : ℕ). stripNumber (stripStateIn st .finished) n (length m) (length o)) is-count
+
+  -- the state's own bytes were lent, and are as they were
+  pub strip-refused : (num ≡ 0 → ⊥) → StripContract st m o num st₁ o′
+  unfolding stripCallRefusal stripCallState stripCallOutput stripAnswer stripOutput
+  strip-refused f =
+      let a = answers.strip-refused (stripStateIn st) m o num is-number f in
+      let r = refused st o (stripAnswer (stripStateIn st) m o) (stripOutput (stripStateIn st) m o) h _ (a .0) o (a .1)
+      (λ g. simp (ne-eqb (stripRefusal (stripStateIn st) m o) 0 g) refl) f in (
+        r .0,
+        e₁ ∙ ap (λ (b : Bytes). b ++ drop 160 st) (eb ∙ answers.kept _ _ _ f) ∙ take-append-drop 160 st ∙ r .1,
+        eo ∙ answers.kept _ _ _ f ∙ r .2,
+      )
+
+  -- the count is put behind b
+  pub strip-done : num ≡ 0 → (st₂ : Bytes) → st₂ ≡ putBytes st₁ 160 (le 8 (n + length m)) → StripContract st m o 0 st₂ o′
   unfolding stripCallRefusal stripCallState stripCallOutput stripAnswer
-  strip-done =
-      done st o (stripAnswer (stripStateIn st) m o) (stripOutput (stripStateIn st) m o) h
-      r (er ∙ ap (λ (s : StripState). stripAnswer s m o) es) o′ (eo ∙ ap (λ (s : StripState). stripOutput s m o) es)
+  strip-done f st₂ e₂ =
+      let s = stripStateIn st in
+      let ec : fillOf block n ≡ fillOf block (stripStateIn st .count) = ap (fillOf block) is-count in
+      let fb = eb ∙ answers.changed _ _ _ f in
+      let ez = eqb-true (getD st 168 0) 0 (not-false (eqb (getD st 168 0) 0) (strip-fits _ _ _ _ (sym is-number ∙ f) .open′)) in
+      let lb = ap length fb ∙ length-fed-state block m (held (take 160 st) (fillOf block n)) (length-take-le 160 st (omega arith)) in
+      let a = answers.strip-done s m o num is-number f b o′ (fb ∙ ap (λ (k : ℕ). fed block (held (take 160 st) k) m .state) ec)
+      (eo ∙ answers.changed _ _ _ f ∙ ap (λ (k : ℕ). putBytes o 0 (fedBytes block (held (take 160 st) k) m)) ec) in
+      done st o (stripAnswer s m o) (stripOutput s m o) h _ (a .0) o′ (a .1) refl
+      st₂ (state-fed st b st₁ st₂ (n + length m) h lb ez e₁ e₂ ∙ ap (λ (k : ℕ). putBytes st 0 (b ++ (le 8 (k + length m) ++ le 1 0))) is-count)
 
 pub end-short : (st o : Bytes) → length st < stripStateLength → EndContract st o 5 st o
 unfolding endCallRefusal endCallState endCallOutput endAnswer

@@ -301,12 +301,13 @@ pub extern "C" fn icepole128_strip(state: &mut [u8], message: &[u8], out: &mut [
     if state.len() < STRIP_STATE_LENGTH {
         return OUTPUT_TOO_SHORT;
     }
-    let r = strips::strip(strip_state_in(state), message, out);
-    if r.refusal != 0 {
-        return r.refusal;
+    let count = bytes_le::load_u64(state, COUNT_AT) as usize;
+    let finished = state[FINISHED_AT] != 0;
+    let number = strips::strip_in(&mut state[0..STATE_BYTES], count, finished, message, out);
+    if number != 0 {
+        return number;
     }
-    let next = r.state;
-    put_strip_state(next, state);
+    bytes_le::store_u64(state, COUNT_AT, (count + message.len()) as u64);
     0
 }
 

@@ -1,4 +1,4 @@
-// The permutation of ICEPOLE (003, 2.5). Each step takes the state S[x][y] by value and returns it.
+// The permutation of ICEPOLE (003, 2.5). Each step takes the state S[x][y] by value and returns it; the rounds are done in place.
 ghost use mathlib.Core.Path.{_≡_};
 ghost use Prim.Native.Nat.{_≤_, _<_};
 ghost use lib.ListN.{getD};
@@ -223,30 +223,47 @@ fn round(s: State, constant: u64) -> State
     kappa(psi(pi(rho(mu(s)))), constant)
 }
 
-// The first n rounds. The table is copied once, and round has one call site, for speed.
-fn rounds(s: State, n: usize) -> State
+// The first n rounds, in place. The table is copied once, and round has one call site, for speed.
+fn rounds(s: &mut State, n: usize)
     requires { ⌜ n ≤ 12 ⌝ }
-    ensures { λ r. ⌜ r ≡ P n s ⌝ }
+    ensures { λ _. ⌜ now (s .exit) ≡ P n (now (s .entry)) ⌝ }
 {
     let table = CONSTANTS;
-    let mut t = s;
+    let mut t = *s;
     for i in 0..n {
         let u = round(t, table[i]);
         t = u;
     }
-    t
+    *s = t;
+}
+
+// P6 and P12 in place: a state that is copied after a permutation has to wait for its words.
+pub fn permute6(s: &mut State)
+    ensures { λ _. ⌜ now (s .exit) ≡ P 6 (now (s .entry)) ⌝ }
+{
+    rounds(s, 6);
+}
+
+pub fn permute12(s: &mut State)
+    ensures { λ _. ⌜ now (s .exit) ≡ P 12 (now (s .entry)) ⌝ }
+{
+    rounds(s, 12);
 }
 
 pub fn p6(s: State) -> State
     ensures { λ r. ⌜ r ≡ P 6 s ⌝ }
 {
-    rounds(s, 6)
+    let mut t = s;
+    permute6(&mut t);
+    t
 }
 
 pub fn p12(s: State) -> State
     ensures { λ r. ⌜ r ≡ P 12 s ⌝ }
 {
-    rounds(s, 12)
+    let mut t = s;
+    permute12(&mut t);
+    t
 }
 
 // The state before key and nonce.

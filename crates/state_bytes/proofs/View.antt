@@ -17,8 +17,7 @@ use Rattle.permutation.specs.State.{State, at, state, tabulate}
 use Rattle.bytes_le.proofs.Laws.{unle-8}
 use Rattle.bits.specs.Bits.{wordRange}
 use Rattle.bytes_le.specs.Bytes.{leAt}
-use Rattle.state_bytes.specs.StateBytes.{bytesOf, column, permuted, stateOf}
-use Rattle.state_bytes.proofs.Words.{Shape}
+use Rattle.state_bytes.specs.StateBytes.{Shape, bytesOf, column, permuted, stateOf}
 
 pub there-and-back : (f : ℕ → ℕ → ℕ) → ((x y : ℕ) → f x y < wordRange) → stateOf (bytesOf (state f)) ≡ state f
 unfolding stateOf bytesOf column leAt

@@ -3,7 +3,7 @@
 use mathlib.Core.Path.{_≡_, refl, sym, ap, ap₂, _∙_}
 use mathlib.Core.List.{List, [], _++_}
 use Prim.Native.Nat.{ℕ, zero, suc, _<_, _*_, _/_, _%_, _≤_}
-use lib.ListN.{getD, set, length, length-set, take, drop}
+use lib.ListN.{getD, set, length, take, drop}
 use mathlib.Core.Bool.{Bool, true, false}
 use native.Mathlib.Omega.{arith}
 use lib.Dec.{eqb}
@@ -14,13 +14,8 @@ use Rattle.bytes_le.specs.Bytes.{Bytes, le, putBytes}
 use Rattle.permutation.specs.State.{State, at, setWord}
 use Rattle.bits.proofs.Cases.{le-or-lt}
 use Rattle.bytes_le.proofs.Laws.{drop-put, put-last, put-left}
-use Rattle.state_bytes.specs.StateBytes.{bytesBelow, bytesOf, wordOf}
+use Rattle.state_bytes.specs.StateBytes.{Shape, bytesBelow, bytesOf, wordOf}
 use Rattle.state_bytes.proofs.Lengths.{length-below, length-bytes}
-
--- four columns of five words
-pub record Shape (s : State) : Type 0 where
-  pub four : length s ≡ 4
-  pub five : (x : ℕ) → x < 4 → length (getD s x []) ≡ 5
 
 -- ---- a word that changes
 module _ (s : State) (h : Shape s) (w : ℕ) (hw : w < 20) (k : ℕ) where
@@ -78,18 +73,6 @@ module _ (s : State) (h : Shape s) (w : ℕ) (hw : w < 20) (k : ℕ) where
   pub bytes-set-word : bytesOf (setWord s (w % 4) (w / 4) k) ≡ putBytes (bytesOf s) (8 * w) (le 8 k)
   unfolding bytesOf
   bytes-set-word = above 20 hw
-
-  pub shape-set-word : Shape (setWord s (w % 4) (w / 4) k)
-  shape-set-word = record { four = simp length-set (h .four); five = λ x g. col x g (eqb x (w % 4)) refl }
-    where
-      col : (x : ℕ) → x < 4 → (t : Bool) → eqb x (w % 4) ≡ t → length (getD then x []) ≡ 5
-      col x g true e =
-          let f : length s ≡ 4 = h .four in
-          ap (λ (x : ℕ). length (getD then x [])) (eqb-true x (w % 4) e)
-          ∙ ap length (getD-set-same s (w % 4) (set (getD s (w % 4) []) (w / 4) k) [] (omega (arith, hx)))
-          ∙ simp length-set (h .five (w % 4) hx)
-      col x g false e =
-          ap length (getD-set-other s (w % 4) x (set (getD s (w % 4) []) (w / 4) k) [] (eqb-false x (w % 4) e)) ∙ h .five x g
 
 -- the bytes of word w
 pub bytes-word : (s : State) → Shape s → (w : ℕ) → w < 20 → take 8 (drop (8 * w) (bytesOf s)) ≡ le 8 (wordOf s w)

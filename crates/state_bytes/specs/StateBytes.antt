@@ -1,8 +1,10 @@
 -- The state of ICEPOLE as its bytes (003, 2.3; 01, "The permutation"): bit z of word number w = x + 4y is state bit 64w + z, and byte j covers bits 8j to
 -- 8j + 7, low bit first.
 -- Assumes nothing.
+use mathlib.Core.Path.{_≡_}
 use mathlib.Core.List.{List, [], _++_}
-use Prim.Native.Nat.{ℕ, zero, suc, _+_, _*_, _/_, _%_}
+use Prim.Native.Nat.{ℕ, zero, suc, _+_, _*_, _/_, _%_, _<_}
+use lib.ListN.{getD, length}
 use Rattle.permutation.specs.State.{State, tabulate, at}
 use Rattle.permutation.specs.Permutation.{P, start}
 use Rattle.bytes_le.specs.Bytes.{Bytes, le, leAt}
@@ -13,6 +15,11 @@ stateWords = 20
 
 abbrev pub stateLength : ℕ
 stateLength = 8 * stateWords
+
+-- four columns of five words
+pub record Shape (s : State) : Type 0 where
+  pub four : length s ≡ 4
+  pub five : (x : ℕ) → x < 4 → length (getD s x []) ≡ 5
 
 -- word number w: S[x][y] with w = x + 4y
 abbrev pub wordOf : State → ℕ → ℕ

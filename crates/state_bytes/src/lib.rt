@@ -1,8 +1,11 @@
-// The state of ICEPOLE as its bytes, and back.
+// The state of ICEPOLE: its words, read and written one by one, with contracts that speak of its bytes. Internal: only crates of ours call these functions.
 ghost use mathlib.Core.Path.{_≡_};
-ghost use Prim.Native.Nat.{_<_};
-ghost use lib.ListN.{length};
-ghost use Rattle.state_bytes.specs.StateBytes.{stateLength, bytesOf, stateOf, permuted, column};
+ghost use Prim.Native.Nat.{ℕ, _*_, _≤_, _<_};
+ghost use lib.ListN.{length, take, drop};
+ghost use Rattle.bits.specs.Bits.{wordRange};
+ghost use Rattle.bytes_le.specs.Bytes.{le, putBytes};
+ghost use Rattle.permutation.specs.State.{at};
+ghost use Rattle.state_bytes.specs.StateBytes.{Shape, stateWords, stateLength, bytesOf, permuted, startBytes};
 
 type State = [[u64; 5]; 4];
 
@@ -11,52 +14,73 @@ const STATE_WORDS: usize = 20;
 
 pub const STATE_BYTES: usize = 8 * STATE_WORDS;
 
-// Column x of the state whose bytes are b.
-fn load_column(b: &[u8], x: usize) -> [u64; 5]
-    requires { ⌜ (x < 4) × (length (now b) ≡ stateLength) ⌝ }
-    ensures { λ r. ⌜ r ≡ column (now (b .entry)) x ⌝ }
+// What its type tells of a state. A proof is told so of a parameter by value, and not of what a reference refers to: the functions below ask here. The call
+// does nothing, and nothing of it is left in the compiled program.
+fn shaped(s: State)
+    ensures { λ _. ⌜ Shape s × ((x y : ℕ) → at s x y < wordRange) ⌝ }
+{}
+
+// Word number w.
+pub fn word(s: &State, w: usize) -> u64
+    requires { ⌜ w < stateWords ⌝ }
+    ensures { λ r. ⌜ le 8 r ≡ take 8 (drop (8 * w) (bytesOf (now (s .entry)))) ⌝ }
 {
-    let at = 8 * x;
-    [
-        bytes_le::load_u64(b, at),
-        bytes_le::load_u64(b, at + 32),
-        bytes_le::load_u64(b, at + 64),
-        bytes_le::load_u64(b, at + 96),
-        bytes_le::load_u64(b, at + 128),
-    ]
+    shaped(*s);
+    s[w % 4][w / 4]
 }
 
-// The state whose bytes are v.
-pub fn from_bytes(v: [u8; STATE_BYTES]) -> State
-    ensures { λ r. ⌜ r ≡ stateOf v ⌝ }
+pub fn set_word(s: &mut State, w: usize, x: u64)
+    requires { ⌜ w < stateWords ⌝ }
+    ensures { λ _. ⌜ bytesOf (now (s .exit)) ≡ putBytes (bytesOf (now (s .entry))) (8 * w) (le 8 x) ⌝ }
 {
-    [
-        load_column(&v, 0),
-        load_column(&v, 1),
-        load_column(&v, 2),
-        load_column(&v, 3),
-    ]
+    shaped(*s);
+    s[w % 4][w / 4] = x;
 }
 
-// The bytes of a state.
-pub fn to_bytes(s: State) -> [u8; STATE_BYTES]
-    ensures { λ r. ⌜ r ≡ bytesOf s ⌝ }
+// The state whose bytes stand at the front of b.
+pub fn load_state(s: &mut State, b: &[u8])
+    requires { ⌜ stateLength ≤ length (now b) ⌝ }
+    ensures { λ _. ⌜ bytesOf (now (s .exit)) ≡ take stateLength (now (b .entry)) ⌝ }
 {
-    let mut b = [0u8; STATE_BYTES];
     let mut w: usize = 0;
     while w < STATE_WORDS {
-        let x = w % 4;
-        let y = w / 4;
-        let k = s[x][y];
-        bytes_le::store_u64(&mut b, 8 * w, k);
+        let k = bytes_le::load_u64(b, 8 * w);
+        set_word(s, w, k);
         w += 1;
     }
-    b
 }
 
-// P6, on words; its contract speaks of their bytes.
-pub fn permute6(s: State) -> State
-    ensures { λ r. ⌜ bytesOf r ≡ permuted 6 (bytesOf s) ⌝ }
+// Puts the bytes of a state at the front of b.
+pub fn store_state(s: &State, b: &mut [u8])
+    requires { ⌜ stateLength ≤ length (now b) ⌝ }
+    ensures { λ _. ⌜ now (b .exit) ≡ putBytes (now (b .entry)) 0 (bytesOf (now (s .entry))) ⌝ }
 {
-    permutation::p6(s)
+    let mut w: usize = 0;
+    while w < STATE_WORDS {
+        let k = word(s, w);
+        bytes_le::store_u64(b, 8 * w, k);
+        w += 1;
+    }
+}
+
+// The state before key and nonce.
+pub fn start(s: &mut State)
+    ensures { λ _. ⌜ bytesOf (now (s .exit)) ≡ startBytes ⌝ }
+{
+    *s = permutation::start_state();
+}
+
+// P6 and P12.
+pub fn permute6(s: &mut State)
+    ensures { λ _. ⌜ bytesOf (now (s .exit)) ≡ permuted 6 (bytesOf (now (s .entry))) ⌝ }
+{
+    shaped(*s);
+    permutation::permute6(s);
+}
+
+pub fn permute12(s: &mut State)
+    ensures { λ _. ⌜ bytesOf (now (s .exit)) ≡ permuted 12 (bytesOf (now (s .entry))) ⌝ }
+{
+    shaped(*s);
+    permutation::permute12(s);
 }

@@ -7,16 +7,23 @@ use Prim.Native.Nat.{ℕ, _+_}
 use borrow.Author.Tests.{ne-eqb}
 use lib.ListN.{length, length-append}
 use Rattle.bytes_le.specs.Bytes.{Bytes, putBytes}
-use Rattle.icepole.specs.declared.Sizes.{Sizes}
+use Rattle.blocks.specs.declared.Sizes.{Sizes}
 use Rattle.icepole.specs.declared.Variant.the-variants.{Icepole128}
 use Rattle.icepole.specs.Variants.{sizes}
-use Rattle.icepole.specs.Sealing.{_⊕₈_, keyed, ready}
+use Rattle.blocks.specs.Sealing.{_⊕₈_, keyed, ready}
 use Rattle.icepole.specs.Answers.{unless}
 use Rattle.strips.specs.declared.StripState.{StripState}
 use Rattle.strips.specs.declared.StripAnswer.{StripAnswer}
 use Rattle.strips.specs.Machine.{ended, fed, fedBytes}
 use Rattle.strips.specs.Answers.{answered, block, heldIn, notStarted, started, startAnswer, startNumber, startOutput, startRefusal}
 use Rattle.strips.specs.Answers.{afterEnd, afterStrip, endAnswer, endNumber, endOutput, endRefusal, stripAnswer, stripNumber, stripOutput, stripRefusal}
+
+-- what was stays under a number that is not 0, and under no other
+pub kept : {A : Type 0} (num : ℕ) (was is : A) → (num ≡ 0 → ⊥) → unless num was is ≡ was
+kept num was is h = simp (ne-eqb num 0 h)
+
+pub changed : {A : Type 0} (num : ℕ) (was is : A) → num ≡ 0 → unless num was is ≡ is
+changed num was is h = simp h
 
 abbrev told : ℕ → ℕ → StripState → StripAnswer
 told num count s = record { refusal = num; mark = 0; count = count; state = s }

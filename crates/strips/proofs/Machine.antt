@@ -14,10 +14,10 @@ use lib.ListN.{length, getD, take, drop, length-append, length-drop, length-set,
 use lib.Seq.{length-take-le}
 use Rattle.bytes_le.specs.Bytes.{Bytes}
 use Rattle.state_bytes.proofs.Lengths.{length-permuted}
-use Rattle.icepole.specs.Sealing.{_⊕₈_, xorAt, xorWith, absorb, finish, absorbMessage, encrypt, tag}
-use Rattle.icepole.proofs.Xor.{getD-xor-with, xor-none, xor-snoc, xor-with-snoc}
-use Rattle.icepole.proofs.Steps.{padded}
-use Rattle.icepole.proofs.Blocks.{by-blocks, encrypt-last, encrypt-more, length-absorb, message-last, message-more}
+use Rattle.blocks.specs.Sealing.{_⊕₈_, xorAt, xorWith, absorb, finish, absorbMessage, encrypt, tag}
+use Rattle.blocks.proofs.Xor.{getD-xor-with, xor-none, xor-snoc, xor-with-snoc}
+use Rattle.blocks.proofs.Steps.{padded}
+use Rattle.blocks.proofs.Blocks.{by-blocks, encrypt-last, encrypt-more, length-absorb, message-last, message-more}
 use Rattle.strips.specs.Machine.{Held, held, makeRoom, step, cipherByte, fed, fedBytes, fillOf, ended}
 
 -- ---- a strip after a strip

@@ -6,8 +6,9 @@ use Prim.Native.Nat.{ℕ, _+_, _≤_, _<_}
 use native.Mathlib.Omega.{arith}
 use borrow.Author.Tests.{le-ltb, lt-ltb, ltb-false}
 use lib.Dec.{ltb}
-use Rattle.icepole.specs.Answers.{maxLength, sealNumber}
-use Rattle.icepole.specs.declared.Sizes.{Sizes}
+use Rattle.icepole.specs.Answers.{sealNumber}
+use Rattle.blocks.specs.Lengths.{maxLength}
+use Rattle.blocks.specs.declared.Sizes.{Sizes}
 use Rattle.icepole.proofs.Numbers.{SealFits, neither, passed, seal-0, seal-fits}
 use Rattle.strips.specs.Answers.{startNumber, stripNumber, endNumber}
 

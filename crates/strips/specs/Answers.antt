@@ -7,11 +7,12 @@ use lib.Dec.{ltb}
 use lib.ListN.{length, replicate}
 use Rattle.bytes_le.specs.Bytes.{Bytes, putBytes}
 use Rattle.state_bytes.specs.StateBytes.{stateLength}
-use Rattle.icepole.specs.declared.Sizes.{Sizes}
+use Rattle.blocks.specs.declared.Sizes.{Sizes}
 use Rattle.icepole.specs.declared.Variant.the-variants.{Icepole128}
-use Rattle.icepole.specs.Variants.{sizes, tagLength}
-use Rattle.icepole.specs.Sealing.{_⊕₈_, keyed, ready}
-use Rattle.icepole.specs.Answers.{_when_, refusal, maxLength, sealNumber, unless, given}
+use Rattle.icepole.specs.Variants.{sizes}
+use Rattle.blocks.specs.Lengths.{tagLength, maxLength}
+use Rattle.blocks.specs.Sealing.{_⊕₈_, keyed, ready}
+use Rattle.icepole.specs.Answers.{_when_, refusal, sealNumber, unless, given}
 use Rattle.strips.specs.declared.StripState.{StripState}
 use Rattle.strips.specs.declared.StripAnswer.{StripAnswer}
 use Rattle.strips.specs.Machine.{Held, held, fed, fedBytes, fillOf, ended}

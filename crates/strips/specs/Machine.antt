@@ -8,7 +8,7 @@ use lib.Bits.{bitXor}
 use lib.Dec.{eqb}
 use lib.ListN.{getD}
 use Rattle.bytes_le.specs.Bytes.{Bytes}
-use Rattle.icepole.specs.Sealing.{xorAt, finish, tag}
+use Rattle.blocks.specs.Sealing.{xorAt, finish, tag}
 
 -- the state's bytes; the block that waits is xored in, and has `fill` bytes
 pub record Held : Type 0 where

@@ -1,7 +1,7 @@
 // A message sealed in strips under ICEPOLE-128 (01, "Afterwards"): start, then strips of message, then the end. For every cutting the bytes equal whole
 // sealing.
-use icepole::BLOCK_BYTES;
-use icepole::BLOCK_WORDS;
+use blocks::BLOCK_BYTES;
+use blocks::BLOCK_WORDS;
 use icepole::DATA_TOO_LONG;
 use icepole::MAX_LENGTH;
 use icepole::OUTPUT_TOO_SHORT;
@@ -15,13 +15,16 @@ ghost use Prim.Native.Nat.{_+_, _≤_};
 ghost use lib.ListN.{length, take, drop};
 ghost use Rattle.bytes_le.specs.Bytes.{putBytes};
 ghost use Rattle.icepole.specs.declared.Variant.the-variants.{Icepole128};
+ghost use Rattle.icepole.specs.Answers.{unless};
 ghost use Rattle.icepole.specs.Variants.{sizes};
-ghost use Rattle.state_bytes.specs.StateBytes.{bytesOf};
+ghost use Rattle.state_bytes.specs.StateBytes.{stateLength, bytesOf};
 ghost use Rattle.strips.specs.Machine.{held, fed, fedBytes, fillOf};
 ghost use Rattle.strips.specs.Answers.{block, startNumber, stripNumber, endNumber, startAnswer, startOutput, stripAnswer, stripOutput, endAnswer, endOutput};
 
 // Strip state finished, or its count too large (01, "Turned down, by example").
 pub const STRIP_STATE: u32 = 14;
+
+type State = [[u64; 5]; 4];
 
 // Between two strips: the state's bytes, with the block that waits xored in, and how many bytes of the message came. It may be made by anybody.
 pub struct StripState {
@@ -112,58 +115,83 @@ fn fill_of(count: usize) -> usize
     (count - 1) % BLOCK_BYTES + 1
 }
 
-// Seals the n bytes of m from index at on within the block that waits, into out from index at on.
-fn feed_block(
-    v: [u8; STATE_BYTES],
-    fill: usize,
-    m: &[u8],
-    at: usize,
-    n: usize,
-    out: &mut [u8],
-) -> [u8; STATE_BYTES]
-    requires { ⌜ (fill + n ≤ block) × (at + n ≤ length (now m)) × (at + n ≤ length (now out)) ⌝ }
-    ensures { λ r. ⌜ (held r (fill + n) ≡ fed block (held v fill) (take n (drop at (now (m .entry)))))
-        × (now (out .exit) ≡ putBytes (now (out .entry)) at (fedBytes block (held v fill) (take n (drop at (now (m .entry)))))) ⌝ }
+// Seals the first n bytes of m within the block that waits, into out at its front. b has the state's bytes.
+fn feed_block(b: &mut [u8], fill: usize, m: &[u8], n: usize, out: &mut [u8])
+    requires { ⌜ (length (now b) ≡ stateLength) × (fill + n ≤ block) × (n ≤ length (now m)) × (n ≤ length (now out)) ⌝ }
+    ensures { λ _. ⌜ (held (now (b .exit)) (fill + n) ≡ fed block (held (now (b .entry)) fill) (take n (now (m .entry))))
+        × (now (out .exit) ≡ putBytes (now (out .entry)) 0 (fedBytes block (held (now (b .entry)) fill) (take n (now (m .entry))))) ⌝ }
 {
-    let mut b = v;
     let mut j: usize = 0;
     while j < n {
-        let c = b[fill + j] ^ m[at + j];
+        let c = b[fill + j] ^ m[j];
         b[fill + j] = c;
-        out[at + j] = c;
+        out[j] = c;
         j += 1;
     }
-    b
 }
 
-// The same for the bytes of m from index from on, where a block begins. Full blocks but the last go word by word.
-fn feed_blocks(v: [[u64; 5]; 4], m: &[u8], from: usize, out: &mut [u8]) -> [u8; STATE_BYTES]
-    requires { ⌜ (from ≤ length (now m)) × (length (now m) ≤ length (now out)) ⌝ }
-    ensures { λ r. ⌜ (r ≡ fed block (held (bytesOf v) 0) (drop from (now (m .entry))) .state)
-        × (now (out .exit) ≡ putBytes (now (out .entry)) from (fedBytes block (held (bytesOf v) 0) (drop from (now (m .entry))))) ⌝ }
+// Seals the bytes of m from index at on, at most a block, where one begins. The block waits: b gets the state's bytes with it.
+fn feed_last(s: &mut State, m: &[u8], at: usize, out: &mut [u8], b: &mut [u8])
+    requires { ⌜ (at ≤ length (now m)) × (length (now m) ≤ at + block) × (length (now m) ≤ length (now out)) × (length (now b) ≡ stateLength) ⌝ }
+    ensures { λ _. ⌜ (now (b .exit) ≡ fed block (held (bytesOf (now (s .entry))) 0) (drop at (now (m .entry))) .state)
+        × (now (out .exit) ≡ putBytes (now (out .entry)) at (fedBytes block (held (bytesOf (now (s .entry))) 0) (drop at (now (m .entry))))) ⌝ }
 {
-    let mut s = v;
+    // With a count of words that the compiler knows, the words of a full block go to b at once.
+    if m.len() - at == BLOCK_BYTES {
+        blocks::encrypt_words(s, m, at, BLOCK_WORDS, out, at);
+        return state_bytes::store_state(s, b);
+    }
+    blocks::encrypt_bytes(s, m, at, m.len() - at, out, at);
+    state_bytes::store_state(s, b)
+}
+
+// The same for any number of bytes, word by word.
+fn feed_blocks(s: &mut State, m: &[u8], from: usize, out: &mut [u8], b: &mut [u8])
+    requires { ⌜ (from ≤ length (now m)) × (length (now m) ≤ length (now out)) × (length (now b) ≡ stateLength) ⌝ }
+    ensures { λ _. ⌜ (now (b .exit) ≡ fed block (held (bytesOf (now (s .entry))) 0) (drop from (now (m .entry))) .state)
+        × (now (out .exit) ≡ putBytes (now (out .entry)) from (fedBytes block (held (bytesOf (now (s .entry))) 0) (drop from (now (m .entry))))) ⌝ }
+{
     let mut at = from;
     while BLOCK_BYTES < m.len() - at {
-        let t = icepole::encrypt_words(s, m, at, BLOCK_WORDS, out, at);
-        s = t;
+        blocks::encrypt_words(s, m, at, BLOCK_WORDS, out, at);
+        blocks::finish(s, BLOCK_BYTES, 1);
         at += BLOCK_BYTES;
     }
-    feed_block(state_bytes::to_bytes(s), 0, m, at, m.len() - at, out)
+    feed_last(s, m, at, out, b)
 }
 
-// The state's bytes after a strip, which is put into out at its front, sealed.
-fn feed(v: [u8; STATE_BYTES], fill: usize, m: &[u8], out: &mut [u8]) -> [u8; STATE_BYTES]
-    requires { ⌜ (fill ≤ block) × (length (now m) ≤ length (now out)) ⌝ }
-    ensures { λ r. ⌜ (r ≡ fed block (held v fill) (now (m .entry)) .state)
-        × (now (out .exit) ≡ putBytes (now (out .entry)) 0 (fedBytes block (held v fill) (now (m .entry)))) ⌝ }
+// A strip is sealed into out, at its front; b has the state's bytes, and fill those of the block that waits.
+fn feed(b: &mut [u8], fill: usize, m: &[u8], out: &mut [u8])
+    requires { ⌜ (length (now b) ≡ stateLength) × (fill ≤ block) × (length (now m) ≤ length (now out)) ⌝ }
+    ensures { λ _. ⌜ (now (b .exit) ≡ fed block (held (now (b .entry)) fill) (now (m .entry)) .state)
+        × (now (out .exit) ≡ putBytes (now (out .entry)) 0 (fedBytes block (held (now (b .entry)) fill) (now (m .entry)))) ⌝ }
 {
     let room = BLOCK_BYTES - fill;
     if m.len() <= room {
-        return feed_block(v, fill, m, 0, m.len(), out);
+        return feed_block(b, fill, m, m.len(), out);
     }
-    let b = feed_block(v, fill, m, 0, room, out);
-    feed_blocks(icepole::finish_bytes(b, BLOCK_BYTES, 1), m, room, out)
+    feed_block(b, fill, m, room, out);
+    let mut s = [[0u64; 5]; 4];
+    state_bytes::load_state(&mut s, b);
+    blocks::finish(&mut s, BLOCK_BYTES, 1);
+    feed_blocks(&mut s, m, room, out, b)
+}
+
+// A strip in place: its number and, where that is 0, the state's bytes after it in b, and the strip in out at its front, sealed. Internal: `strip` and the C call
+// of a strip are made of it.
+pub fn strip_in(b: &mut [u8], count: usize, finished: bool, message: &[u8], out: &mut [u8]) -> u32
+    requires { ⌜ length (now b) ≡ stateLength ⌝ }
+    ensures { λ r. ⌜ (r ≡ stripNumber finished count (length (now (message .entry))) (length (now (out .entry))))
+        × (now (b .exit) ≡ unless r (now (b .entry)) (fed block (held (now (b .entry)) (fillOf block count)) (now (message .entry)) .state))
+        × (now (out .exit) ≡ unless r (now (out .entry))
+        (putBytes (now (out .entry)) 0 (fedBytes block (held (now (b .entry)) (fillOf block count)) (now (message .entry))))) ⌝ }
+{
+    let number = strip_number(finished, count, message.len(), out.len());
+    if number != 0 {
+        return number;
+    }
+    feed(b, fill_of(count), message, out);
+    0
 }
 
 // ---- the calls
@@ -202,13 +230,16 @@ pub fn start(
             },
         };
     }
-    let u = icepole::seal_ready(q, key, nonce, secret, first, second, out);
+    let mut u = [[0u64; 5]; 4];
+    blocks::seal_ready(&mut u, q, key, nonce, secret, first, second, out);
+    let mut bytes = [0u8; STATE_BYTES];
+    state_bytes::store_state(&u, &mut bytes);
     StripAnswer {
         refusal: 0,
         mark: 0,
         count: q.secret,
         state: StripState {
-            bytes: state_bytes::to_bytes(u),
+            bytes,
             count: 0,
             finished: false,
         },
@@ -220,7 +251,8 @@ pub fn strip(s: StripState, message: &[u8], out: &mut [u8]) -> StripAnswer
     ensures { λ r. ⌜ (r ≡ stripAnswer s (now (message .entry)) (now (out .entry)))
         × (now (out .exit) ≡ stripOutput s (now (message .entry)) (now (out .entry))) ⌝ }
 {
-    let number = strip_number(s.finished, s.count, message.len(), out.len());
+    let mut bytes = s.bytes;
+    let number = strip_in(&mut bytes, s.count, s.finished, message, out);
     if number != 0 {
         return StripAnswer {
             refusal: number,
@@ -229,14 +261,12 @@ pub fn strip(s: StripState, message: &[u8], out: &mut [u8]) -> StripAnswer
             state: s,
         };
     }
-    let v = s.bytes;
-    let b = feed(v, fill_of(s.count), message, out);
     StripAnswer {
         refusal: 0,
         mark: 0,
         count: message.len(),
         state: StripState {
-            bytes: b,
+            bytes,
             count: s.count + message.len(),
             finished: false,
         },
@@ -257,8 +287,10 @@ pub fn end(s: StripState, out: &mut [u8]) -> StripAnswer
         };
     }
     let v = s.bytes;
-    let w = state_bytes::to_bytes(icepole::finish_bytes(v, fill_of(s.count), 0));
-    bytes_le::put_bytes(out, 0, &w[0..TAG_BYTES]);
+    let mut last = [[0u64; 5]; 4];
+    state_bytes::load_state(&mut last, &v);
+    blocks::finish(&mut last, fill_of(s.count), 0);
+    blocks::put_tag(&last, out, 0);
     let finished = true;
     StripAnswer {
         refusal: 0,

@@ -7,12 +7,11 @@ use borrow.Author.Needs.{needs}
 use borrow.Author.Tests.{leb-true}
 use lib.ListN.{length}
 use Rattle.icepole.specs.Answers.{fitsOutput, openLength}
-use Rattle.icepole.specs.Bounds.{Bounded}
+use Rattle.blocks.specs.Bounds.{Bounded}
 use Rattle.icepole.specs.declared.Opened.{Opened}
-use Rattle.icepole.specs.declared.Sizes.{Sizes}
-use Rattle.icepole.proofs.Answers.{answer-by, open-given, open-stays, open-tells, open-written}
+use Rattle.blocks.specs.declared.Sizes.{Sizes}
+use Rattle.icepole.proofs.Answers.{message-by, answer-by, open-given, open-stays, open-tells, open-written}
 use Rattle.icepole.proofs.Bounds.{bounded-by}
-use Rattle.icepole.proofs.Whole.{message-by}
 use Rattle.icepole.proofs.open_message.Statement.{statement}
 use Rattle.icepole.proofs.open_message.Tie as tie
 
@@ -34,13 +33,13 @@ returns c =
 
 decrypt-message-requires : tie.Need-decrypt-message-requires
 decrypt-message-requires c κs =
-    let f = c .before .before .before .before in
+    let f = c .before .before .before .before .before in
     let m = f .before .before .message-fits in
     let q = f .before .before .before .sizes-of in
     let a = f .before .before .before .before .before .before .before .before .before .before .args in
     let e = answer-by (a .v) _ (q .ensures) (a .key .now) (a .nonce .now) (a .first .now ++ a .second .now) (a .sealed .now) (a .out .now) _ (m .ensures)
     _ (f .open-verified .ensures .0) in
-    let z = c .before .before .if1 .left in
+    let z = c .before .before .before .if1 .left in
     let w = open-tells (a .v) (a .key .now) (a .nonce .now) (a .first .now ++ a .second .now) (a .sealed .now) (fitsOutput (a .v) (a .sealed .now) (a .out .now)) _ e z in
     let g = open-given (a .v) (a .key .now) (a .nonce .now) (a .first .now ++ a .second .now) (a .sealed .now) (fitsOutput (a .v) (a .sealed .now) (a .out .now)) _ e z in
     let l = ap (λ (r : Opened). r .length) g in
@@ -51,13 +50,13 @@ decrypt-message-requires c κs =
 
 returns-2 : tie.Need-returns-2
 returns-2 c =
-    let f = c .before .before .before .before .before .before .before in
+    let f = c .before .before .before .before .before .before .before .before in
     let m = f .before .before .message-fits in
     let q = f .before .before .before .sizes-of in
     let a = f .before .before .before .before .before .before .before .before .before .before .args in
     let e = answer-by (a .v) _ (q .ensures) (a .key .now) (a .nonce .now) (a .first .now ++ a .second .now) (a .sealed .now) (a .out .now) _ (m .ensures)
     _ (f .open-verified .ensures .0) in
-    let z = c .before .before .before .before .before .if1 .left in
+    let z = c .before .before .before .before .before .before .if1 .left in
     let g = open-given (a .v) (a .key .now) (a .nonce .now) (a .first .now ++ a .second .now) (a .sealed .now) (fitsOutput (a .v) (a .sealed .now) (a .out .now)) _ e z in
     let l = ap (λ (r : Opened). r .length) g in (
       e,

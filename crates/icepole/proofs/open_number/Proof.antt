@@ -5,8 +5,8 @@ use mathlib.Core.Bool.{true}
 use Prim.Native.Nat.{_+_}
 use borrow.Author.Needs.{needs}
 use Rattle.icepole.specs.Answers.{openNumber}
-use Rattle.icepole.specs.Bounds.{Bounded}
-use Rattle.icepole.specs.declared.Sizes.{Sizes}
+use Rattle.blocks.specs.Bounds.{Bounded}
+use Rattle.blocks.specs.declared.Sizes.{Sizes}
 use Rattle.icepole.proofs.Bounds.{bounded-by}
 use Rattle.icepole.proofs.open_number.Statement.{statement}
 use Rattle.icepole.proofs.open_number.Tie as tie

@@ -4,13 +4,12 @@ use mathlib.Core.Path.{refl, sym, ap, _∙_}
 use mathlib.Core.List.{_++_}
 use native.Mathlib.Omega.{arith}
 use borrow.Author.Needs.{needs}
-use Rattle.icepole.specs.Bounds.{Bounded}
-use Rattle.icepole.specs.Sealing.{readyOf}
-use Rattle.icepole.specs.declared.Sizes.{Sizes}
-use Rattle.icepole.proofs.Answers.{not-opened, open-differs, open-done, open-refused}
+use Rattle.blocks.specs.Bounds.{Bounded}
+use Rattle.blocks.specs.Sealing.{readyOf}
+use Rattle.blocks.specs.declared.Sizes.{Sizes}
+use Rattle.icepole.proofs.Answers.{agrees-by, not-opened, open-differs, open-done, open-refused}
 use Rattle.icepole.proofs.Bounds.{bounded-by}
 use Rattle.icepole.proofs.Numbers.{open-fits}
-use Rattle.icepole.proofs.Whole.{agrees-by}
 use Rattle.icepole.proofs.open_verified.Statement.{statement}
 use Rattle.icepole.proofs.open_verified.Tie as tie
 
@@ -30,17 +29,12 @@ returns c =
       λ z. absurd (not-opened _ (c .before .if1 .taken) _ (c .refused .ensures) z),
     )
 
-open-ready-requires : tie.Need-open-ready-requires
-open-ready-requires c κs =
-    let p = c .before .before in
-    let w = open-fits _ _ _ _ _ _ _ (sym (p .open-number-of .ensures) ∙ c .before .if1 .left) in
-    (bounds (p .before), w .key, w .nonce, w .associated, omega (arith, w .sealed), refl)
-
-tag-agrees-requires : tie.Need-tag-agrees-requires
-tag-agrees-requires c κs =
-    let p = c .before .before .before .before in
-    let w = open-fits _ _ _ _ _ _ _ (sym (p .open-number-of .ensures) ∙ c .before .before .before .if1 .left) in
-    (bounds (p .before), w .sealed)
+verify-sealed-requires : tie.Need-verify-sealed-requires
+verify-sealed-requires c κs =
+    let p = c .before .before .before in
+    let h = bounds (p .before) in
+    let w = open-fits _ _ _ _ _ _ _ (sym (p .open-number-of .ensures) ∙ c .before .before .if1 .left) in
+    (h, w .key, w .nonce, w .associated, w .sealed, h .secret)
 
 add-t23 : tie.Need-add-t23
 add-t23 c = let h = bounds (c .before .before .before .before .before .before .before .before) in omega (arith, h .secret)
@@ -53,23 +47,23 @@ sub-t24 c =
 
 returns-2 : tie.Need-returns-2
 returns-2 c =
-    let o = c .before .before .before .before .open-ready in
+    let o = c .before .before .before .verify-sealed in
     let p = c .before .before .before .before .before .before .before in
     let q = p .before .sizes-of in
     let a = p .before .before .before .before .before .before .before .args in
-    let t = agrees-by (a .v) _ (q .ensures) _ _ _ _ _ _ (o .ensures .0) (c .before .before .tag-agrees .ensures) in (
+    let t = agrees-by (a .v) _ (q .ensures) _ _ _ _ _ (o .ensures .0) in (
       open-done (a .v) _ (q .ensures) (a .key .now) (a .nonce .now) (a .first .now) (a .second .now) (a .sealed .now) (a .fits)
-          _ (p .open-number-of .ensures) (c .before .before .before .before .before .before .if1 .left) (sym t ∙ c .before .if2 .taken) _ refl _ (o .ensures .1),
-      λ z. o .ensures .0 ∙ ap (λ (q : Sizes). readyOf q (a .key .now) (a .nonce .now) (a .first .now ++ a .second .now) (a .sealed .now)) (q .ensures),
+          _ (p .open-number-of .ensures) (c .before .before .before .before .before .before .if1 .left) (sym t ∙ c .before .if2 .taken) _ refl _ (o .ensures .2),
+      λ z. o .ensures .1 ∙ ap (λ (q : Sizes). readyOf q (a .key .now) (a .nonce .now) (a .first .now ++ a .second .now) (a .sealed .now)) (q .ensures),
     )
 
 returns-3 : tie.Need-returns-3
 returns-3 c =
-    let o = c .before .before .before .before .open-ready in
+    let o = c .before .before .before .verify-sealed in
     let p = c .before .before .before .before .before .before .before in
     let q = p .before .sizes-of in
     let a = p .before .before .before .before .before .before .before .args in
-    let t = agrees-by (a .v) _ (q .ensures) _ _ _ _ _ _ (o .ensures .0) (c .before .before .tag-agrees .ensures) in (
+    let t = agrees-by (a .v) _ (q .ensures) _ _ _ _ _ (o .ensures .0) in (
       open-differs (a .v) _ (q .ensures) (a .key .now) (a .nonce .now) (a .first .now) (a .second .now) (a .sealed .now) (a .fits)
           _ (p .open-number-of .ensures) (c .before .before .before .before .before .before .if1 .left) (sym t ∙ c .before .if2 .left) _ (c .refused2 .ensures),
       λ z. absurd (not-opened 7 (λ e. omega arith) _ (c .refused2 .ensures) z),
@@ -84,8 +78,7 @@ open-verified-spec =
     (λ c κs. search needs)
     returns
     (λ c. search needs)
-    open-ready-requires
-    tag-agrees-requires
+    verify-sealed-requires
     add-t23
     sub-t24
     returns-2

@@ -3,7 +3,7 @@
 use mathlib.Core.Path.{refl, sym, _∙_}
 use native.Mathlib.Omega.{arith}
 use borrow.Author.Needs.{needs}
-use Rattle.icepole.specs.Bounds.{Bounded}
+use Rattle.blocks.specs.Bounds.{Bounded}
 use Rattle.icepole.proofs.Answers.{seal-done, seal-refused}
 use Rattle.icepole.proofs.Bounds.{bounded-by}
 use Rattle.icepole.proofs.Numbers.{seal-fits}

@@ -4,8 +4,8 @@ use mathlib.Core.Path.{ap, _∙_}
 use Prim.Native.Nat.{_+_}
 use borrow.Author.Needs.{needs}
 use Rattle.icepole.specs.Answers.{sealNumber}
-use Rattle.icepole.specs.Bounds.{Bounded}
-use Rattle.icepole.specs.declared.Sizes.{Sizes}
+use Rattle.blocks.specs.Bounds.{Bounded}
+use Rattle.blocks.specs.declared.Sizes.{Sizes}
 use Rattle.icepole.proofs.Bounds.{bounded-by}
 use Rattle.icepole.proofs.seal_number.Statement.{statement}
 use Rattle.icepole.proofs.seal_number.Tie as tie

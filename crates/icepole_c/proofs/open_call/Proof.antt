@@ -5,9 +5,9 @@ use mathlib.Core.List.{_++_}
 use Prim.Native.Nat.{ℕ, _+_, _≤_}
 use native.Mathlib.Omega.{arith}
 use borrow.Author.Needs.{needs}
-use Rattle.icepole.specs.Bounds.{Bounded}
+use Rattle.blocks.specs.Bounds.{Bounded}
 use Rattle.icepole.specs.Variants.{sizes}
-use Rattle.icepole.specs.declared.Sizes.{Sizes}
+use Rattle.blocks.specs.declared.Sizes.{Sizes}
 use Rattle.icepole.specs.declared.Variant.{Variant}
 use Rattle.icepole.proofs.Bounds.{bounded-by}
 use Rattle.icepole_c.proofs.Returned.{length-got, open-refused-call, opened-call, short-call, told}

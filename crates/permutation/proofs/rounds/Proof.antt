@@ -13,10 +13,10 @@ use Rattle.permutation.proofs.rounds.Statement.{statement}
 use Rattle.permutation.proofs.rounds.Tie as tie
 
 abbrev Inv-loop : tie.InvT-loop
-Inv-loop n table t₀ i₀ t i = (i ≤ n) × (t ≡ P i t₀)
+Inv-loop s n table t₀ i₀ t i = (i ≤ n) × (t ≡ P i t₀)
 
 abbrev μ-loop : tie.MeasureT-loop
-μ-loop n table t₀ i₀ t i = n - i
+μ-loop s n table t₀ i₀ t i = n - i
 
 loop-holds : tie.Need-loop-holds Inv-loop μ-loop
 unfolding P
@@ -28,13 +28,13 @@ loop-again c =
     let l = c .before .before in (
       omega arith,
       c .round .ensures ∙ ap (λ (t : State). roundWith t (getD constants (l .loop .i) 0)) (l .loop .inv .1)
-          ∙ ap (λ (k : ℕ). P k (l .before .args .s)) (sym (add-one (l .loop .i))),
+          ∙ ap (λ (k : ℕ). P k (l .before .before .args .s .now)) (sym (add-one (l .loop .i))),
     )
 
 returns : tie.Need-returns Inv-loop μ-loop
 returns c =
-    let e : c .before .loop .i ≡ c .before .before .args .n = omega arith in
-    c .before .loop .inv .1 ∙ ap (λ (k : ℕ). P k (c .before .before .args .s)) e
+    let e : c .before .loop .i ≡ c .before .before .before .args .n = omega arith in
+    c .before .loop .inv .1 ∙ ap (λ (k : ℕ). P k (c .before .before .before .args .s .now)) e
 
 pub rounds-spec : {M : Type 1} → statement M
 rounds-spec =

@@ -3,10 +3,12 @@
 use mathlib.Core.Path.{refl, sym, _∙_}
 use native.Mathlib.Omega.{arith}
 use borrow.Author.Needs.{needs}
+use Rattle.state_bytes.proofs.Lengths.{length-bytes}
 use Rattle.icepole.specs.declared.Variant.the-variants.{Icepole128}
 use Rattle.icepole.proofs.Bounds.{bounded-by}
 use Rattle.strips.proofs.Answers.{start-done, start-refused}
 use Rattle.strips.proofs.Numbers.{start-fits-by}
+use Rattle.strips.proofs.Turns.{stored}
 use Rattle.strips.proofs.start.Statement.{statement}
 use Rattle.strips.proofs.start.Tie as tie
 
@@ -18,17 +20,20 @@ returns c =
 
 seal-ready-requires : tie.Need-seal-ready-requires
 seal-ready-requires c κs =
-    let q = c .before .before .before .sizes-of in
-    let w = start-fits-by _ _ (q .ensures) _ _ _ _ _ (sym (c .before .before .start-number .ensures) ∙ c .before .if1 .left) in
+    let i = c .before .before in
+    let q = i .before .before .sizes-of in
+    let w = start-fits-by _ _ (q .ensures) _ _ _ _ _ (sym (i .before .start-number .ensures) ∙ i .if1 .left) in
     (bounded-by Icepole128 _ (q .ensures), w .key, w .nonce, w .secret, w .associated, omega (arith, w .out))
 
 returns-2 : tie.Need-returns-2
 returns-2 c =
-    let p = c .before .before .before .before .before .before .before in
+    let r = c .before .before .before .before .before .before in
+    let i = r .before .before .before in
+    let p = i .before .before in
     let a = p .before .before .before .before .before .before .before .args in
     start-done _ (p .sizes-of .ensures) (a .key .now) (a .nonce .now) (a .secret .now) (a .first .now) (a .second .now) (a .out .now)
-    _ (c .before .before .before .before .before .before .start-number .ensures) (c .before .before .before .before .before .if1 .left)
-    _ refl _ _ (c .to-bytes .ensures ∙ c .before .before .before .seal-ready .ensures .0) (c .before .before .before .seal-ready .ensures .1)
+    _ (i .before .start-number .ensures) (i .if1 .left)
+    _ refl _ _ (stored _ _ _ (c .before .store-state .ensures) (length-bytes _) refl ∙ r .seal-ready .ensures .0) (r .seal-ready .ensures .1)
 
 pub start-spec : {M : Type 1} → statement M
 start-spec =
@@ -38,6 +43,7 @@ start-spec =
     (λ c κs. search needs)
     returns
     seal-ready-requires
+    (λ c. search needs)
     (λ c κs. search needs)
     (λ c. search needs)
     returns-2)

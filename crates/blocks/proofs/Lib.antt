@@ -1,0 +1,9 @@
+pub mod Xor
+pub mod Runs
+pub mod Words
+pub mod Steps
+pub mod Blocks
+pub mod Full
+pub mod Turns
+pub mod Opening
+pub mod Whole
