@@ -48,7 +48,7 @@ static const size_t sizes[SIZES] = {1, 16, 64, 128, 16384, MOST};
 /* The limits that the project set itself, size by size; 0: none. */
 static const double no_limit[SIZES];
 static const double plain_128[SIZES] = {1.10, 1.10, 1.10, 1.10, 1.00, 1.00};
-static const double shaped_128[SIZES] = {0, 0, 0, 0, 1.06, 1.06};
+static const double shaped_128[SIZES] = {1.08, 1.08, 1.08, 1.08, 1.06, 1.06};
 static const double plain_256a[SIZES] = {0, 0, 0, 0, 0, 1.10};
 static const double verify_to_seal[SIZES] = {1.05, 1.05, 1.05, 1.05, 1.05, 1.05};
 

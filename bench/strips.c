@@ -27,24 +27,29 @@ static uint32_t seal_strips(size_t strip)
 
 int main(void)
 {
-    static const size_t strips[] = {1, 16, 64, 128, 1000, 4096, 65536, MOST};
+    static const struct { size_t bytes; double limit; } strips[] = { /* of the ratio, set by the project itself; 0: none */
+        {1, 0}, {16, 0}, {64, 0}, {128, 1.10}, {1000, 0}, {4096, 0}, {65536, 0}, {MOST, 0},
+    };
     static double turn[RUNS];
     for (size_t i = 0; i < MOST; i++)
         message[i] = (uint8_t)(i * 7 + (i >> 8));
-    printf("| bytes a strip | 1 MiB in strips / whole |\n|---|---|\n");
+    printf("| bytes a strip | 1 MiB in strips / whole | wanted |\n|---|---|---|\n");
     for (size_t s = 0; s < sizeof strips / sizeof *strips; s++) {
-        if (seal() || seal_strips(strips[s]) || memcmp(output, whole, sizeof whole)) {
-            fprintf(stderr, "strips of %zu bytes and whole sealing differ\n", strips[s]);
+        size_t bytes = strips[s].bytes;
+        if (seal() || seal_strips(bytes) || memcmp(output, whole, sizeof whole)) {
+            fprintf(stderr, "strips of %zu bytes and whole sealing differ\n", bytes);
             return 1;
         }
         for (int i = 0; i < RUNS; i++) {
             double from = now();
-            seal_strips(strips[s]);
+            seal_strips(bytes);
             double between = now();
             seal();
             turn[i] = (between - from) / (now() - between);
         }
-        printf("| %zu | %.3f |\n", strips[s], median(turn, RUNS));
+        printf("| %zu |", bytes);
+        print_cell(median(turn, RUNS), strips[s].limit);
+        strips[s].limit > 0 ? printf(" at most %.2f |\n", strips[s].limit) : printf(" |\n");
     }
     return 0;
 }

@@ -141,16 +141,57 @@ moved_folder() {
     run build/moved/program "$@"
 }
 
-# Instructions of a 128-byte block sealed, by callgrind, are at most what was wanted. What calls the functions of a block decides what the compiler makes of them.
-block() {
+# What a program does TIMES more often for the number MORE than for LESS: its instructions, by callgrind, are at most MOST. Then come MORE, LESS, the words of
+# callgrind, if any, and the program. What calls the functions of a block decides what the compiler makes of them.
+counted() {
     if ! command -v valgrind >/dev/null; then
         echo "valgrind is not here: no instructions were counted"
         return 0
     fi
-    gcc -std=c11 -Wall -Wextra -Werror -O2 bench/block.c target/staticlib/libicepole_c.a -o build/block || return 1
-    for bytes in 32768 16384; do
-        valgrind --tool=callgrind --callgrind-out-file=/dev/null build/block $bytes 2>&1 | awk '/Collected/ {print $4}'
-    done | awk '{n[NR] = $1} END {count = (n[1] - n[2]) / 128; printf "%.0f instructions of a sealed block\n", count; exit !(NR == 2 && count > 0 && count <= 1930)}'
+    times=$1 what=$2 most=$3 more=$4 less=$5
+    shift 5
+    for n in "$more" "$less"; do
+        valgrind --tool=callgrind --callgrind-out-file=/dev/null "$@" "$n" 2>&1 | awk '/Collected/ {print $4}'
+    done | awk -v times="$times" -v what="$what" -v most="$most" '{n[NR] = $1} END {
+        count = (n[1] - n[2]) / times
+        printf "%.0f instructions of %s\n", count, what
+        exit !(NR == 2 && count > 0 && count <= most)
+    }'
+}
+
+# Of a 128-byte block in a call.
+block() {
+    gcc -std=c11 -Wall -Wextra -Werror -O2 bench/block.c target/staticlib/libicepole_c.a -o build/block && build/block 32768 || return 1
+    counted 128 "a block in $1" "$2" 32768 16384 --toggle-collect="$1" build/block
+}
+
+# Of a P6, as make bench counts it.
+p6() {
+    rt staticlib permutation_bench >build/p6.log 2>&1 || { cat build/p6.log; return 1; }
+    gcc -std=c11 -D_POSIX_C_SOURCE=200809L -Wall -Wextra -Werror -O2 bench/p6.c bench/permutation.c target/staticlib/libpermutation_bench.a -o build/p6 || return 1
+    counted 1000 "a P6" 1700 1001 1 build/p6 proved
+}
+
+# No division in compiled code, neither as an instruction nor as a call of one: its time may depend on what is divided, and the source takes bytes of secrets
+# by division (docs/PROOFS.md, "What is trusted").
+no_division() {
+    if ! command -v objdump >/dev/null; then
+        echo "objdump is not here: no look for division"
+        return 0
+    fi
+    for file in "$@"; do
+        objdump -dr "$file" >build/objdump.log && grep -qw ret build/objdump.log || { echo "$file has no code to look through"; return 1; }
+        ! grep -E 'div|__u?mod' build/objdump.log || { echo "$file divides"; return 1; }
+    done
+}
+
+# The same look at two short C functions that divide.
+division_seen() {
+    command -v objdump >/dev/null || { no_division; return; }
+    for type in 'unsigned long' 'unsigned __int128'; do
+        echo "$type f($type x, $type y) { return x % y + 1; }" | gcc -O2 -x c -c - -o build/division.o || return 1
+        no_division build/division.o | grep -q 'divides$' || { echo "a division of $type passes"; return 1; }
+    done
 }
 
 # Random cases with a new seed each time.
@@ -188,7 +229,11 @@ step "the C program of bursts, sanitized" c_sanitized tests/burst_calls/c/record
 step "the example, sanitized" c_sanitized examples/firmware.c libburst_c.a build/card.burst
 step "icepole from build/lib" moved_folder tests/c_calls/c/roundtrip.c icepole
 step "burst from build/lib" moved_folder examples/firmware.c burst build/card.burst
-step "instructions of a sealed block" block
+step "instructions of a sealed block" block icepole128_seal 1850
+step "instructions of an opened block" block icepole128_open 3900
+step "instructions of a P6" p6
+step "no division in the libraries" no_division target/staticlib/libicepole_c.a target/staticlib/libburst_c.a
+step "and one that is there is seen" division_seen
 rust_tests tests
 rust_tests tools/burst
 step "make demo" demo

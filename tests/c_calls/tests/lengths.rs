@@ -39,7 +39,16 @@ fn long_ones(variant: Variant) {
     }
 }
 
-for_each_variant!(short_pairs, long_ones);
+/// Whole words and every rest of a word, in the first two blocks and beyond.
+fn every_message_to_300(variant: Variant) {
+    let mut generator = SplitMix64::new(0x300);
+    for msg in 0..=300 {
+        check(&mut generator, variant, 12, msg);
+        check(&mut generator, variant, msg, 300 - msg);
+    }
+}
+
+for_each_variant!(short_pairs, long_ones, every_message_to_300);
 
 fn check_maximum(variant: Variant, ad1: usize, ad2: usize, msg: usize) {
     let mut generator = SplitMix64::new(0x3A8);

@@ -91,6 +91,17 @@ fn strips_of_one_byte() {
     }
 }
 
+/// Strips of one length, for every length to two blocks and more: a strip ends
+/// at every place of a block, and begins there.
+#[test]
+fn strips_of_every_length_to_260() {
+    let mut generator = SplitMix64::new(0x57225);
+    let case = Case::random(&mut generator, Variant::Icepole128, 3, 9, 1_000);
+    for length in 1..=260 {
+        check_cut(&case, &vec![length; 1_000 / length], 0);
+    }
+}
+
 #[test]
 fn empty_message() {
     let mut generator = SplitMix64::new(0x57222);
