@@ -1,6 +1,6 @@
 //! A dash in place of a file: standard input or standard output, once each.
 
-use crate::folder::{key, Folder, Run, SITE_MARK, STAMP, WORKED};
+use crate::folder::{key, unread, Folder, Run, SITE_MARK, STAMP, WORKED};
 use std::fs;
 use std::process::{Output, Stdio};
 
@@ -138,10 +138,7 @@ fn a_standard_output_that_takes_no_more_is_74() {
     run.failed(74, &["cannot write to standard output: ", "not whole"]);
 
     let mut command = folder.command(&line.split(' ').collect::<Vec<_>>());
-    command.stdout(Stdio::piped()).stderr(Stdio::piped());
-    let mut tool = command.spawn().unwrap();
-    drop(tool.stdout.take());
-    let run = Run::of(tool.wait_with_output().unwrap());
+    let run = Run::of(command.stdout(unread()).output().unwrap());
     assert_eq!((run.status, run.err.as_str()), (74, ""));
 }
 

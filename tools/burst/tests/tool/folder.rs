@@ -1,7 +1,7 @@
 //! A temporary folder to run the tool in, and what the tests share.
 
 use std::fs;
-use std::io::Write;
+use std::io::{pipe, PipeWriter, Write};
 use std::os::unix::fs::PermissionsExt;
 use std::path::{Path, PathBuf};
 use std::process::{Child, Command, Output, Stdio};
@@ -21,6 +21,13 @@ pub const WORKED: [u8; 111] = [
 /// Site mark and stamp of the worked file.
 pub const SITE_MARK: &str = "hex:101112131415161718191A1B1C1D1E1F";
 pub const STAMP: &str = "hex:202122232425262728292A2B2C2D2E2F";
+
+/// A pipe whose reader is gone before anything is written to it.
+pub fn unread() -> PipeWriter {
+    let (reader, writer) = pipe().unwrap();
+    drop(reader);
+    writer
+}
 
 /// The key of the worked file is 0 to 15.
 pub fn key() -> Vec<u8> {

@@ -1,7 +1,7 @@
 //! A run that a signal ends leaves its outputs whole or not at all, and nothing
 //! in the way of the next.
 
-use crate::folder::{picture, Folder, Run, Shell};
+use crate::folder::{picture, unread, Folder, Run, Shell};
 use std::fs;
 use std::io::Write;
 use std::ops::RangeInclusive;
@@ -318,10 +318,7 @@ fn a_killed_run_does_not_stop_the_next_silently() {
 fn a_closed_standard_output_leaves_all_pictures() {
     let folder = many();
     let mut command = folder.command(&ALL.split(' ').collect::<Vec<_>>());
-    command.stdout(Stdio::piped()).stderr(Stdio::piped());
-    let mut tool = command.spawn().unwrap();
-    drop(tool.stdout.take());
-    let run = Run::of(tool.wait_with_output().unwrap());
+    let run = Run::of(command.stdout(unread()).output().unwrap());
     assert_eq!((run.status, run.err.as_str()), (74, ""));
     check_all(&folder);
     assert_eq!(hidden(&folder), Vec::<PathBuf>::new());
