@@ -3,15 +3,18 @@
 use mathlib.Core.Path.{_≡_, refl, ap}
 use mathlib.Core.Bool.{Bool, false}
 use mathlib.Core.List.{List, [], _∷_, map}
-use Prim.Native.Nat.{ℕ, suc, _^_, _<_}
+use Prim.Native.Nat.{ℕ, suc, _-_, _^_, _<_}
 use native.Mathlib.Nat.{lt-of-le-of-lt}
 use lib.Bits.{bitAnd, bitXor, bitOr, and-le-l, xor-lt, or-lt}
 use lib.Pow.{ones-sub-lt}
 use lib.ListN.{length, getD}
-use Rattle.bits.specs.Bits.{bit, word}
+use Rattle.bits.specs.Bits.{bit, wordRange, word}
 use Rattle.bits.proofs.Laws.{by-bits}
 use Rattle.permutation.specs.State.{tabulate}
-use Rattle.permutation.specs.Words.{~}
+
+-- the complement of a word
+abbrev pub ~ : ℕ → ℕ
+~ a = (wordRange - 1) - a
 
 pub xor64 : {a b : ℕ} → a < 2 ^ 64 → b < 2 ^ 64 → bitXor a b < 2 ^ 64
 xor64 {a} {b} h l = xor-lt 64 a b h l

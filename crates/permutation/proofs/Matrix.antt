@@ -11,33 +11,33 @@ use Rattle.permutation.specs.Permutation.{mix, μ}
 use Rattle.permutation.specs.Words.{_⊻_}
 use Rattle.permutation.proofs.Columns.{xor64, by-positions}
 
--- the words as the code works them out, with the shared sums written out
+-- the words as the code works them out
 abbrev pub mixed : State → State
 mixed s =
     let S : ℕ → ℕ → ℕ = at s in
-    ((S 0 4 ⊻ S 2 0 ⊻ S 1 0 ⊻ S 3 0)
-    ∷ (S 0 0 ⊻ S 2 1 ⊻ S 1 1 ⊻ S 3 1)
-    ∷ (S 0 1 ⊻ S 0 4 ⊻ S 2 2 ⊻ S 1 2 ⊻ S 3 2)
-    ∷ (S 0 2 ⊻ S 2 3 ⊻ S 1 3 ⊻ S 3 3)
-    ∷ (S 0 3 ⊻ S 2 4 ⊻ S 1 4 ⊻ S 3 4)
+    ((S 0 4 ⊻ S 1 0 ⊻ S 2 0 ⊻ S 3 0)
+    ∷ (S 0 0 ⊻ S 1 1 ⊻ S 2 1 ⊻ S 3 1)
+    ∷ (S 0 1 ⊻ S 0 4 ⊻ S 1 2 ⊻ S 2 2 ⊻ S 3 2)
+    ∷ (S 0 2 ⊻ S 1 3 ⊻ S 2 3 ⊻ S 3 3)
+    ∷ (S 0 3 ⊻ S 1 4 ⊻ S 2 4 ⊻ S 3 4)
     ∷ [])
-    ∷ ((S 0 0 ⊻ S 2 1 ⊻ S 1 0 ⊻ S 3 4)
-    ∷ (S 0 1 ⊻ S 0 4 ⊻ S 2 2 ⊻ (S 0 4 ⊻ S 2 0) ⊻ S 1 1 ⊻ S 3 0)
-    ∷ (S 0 2 ⊻ S 2 3 ⊻ S 1 2 ⊻ (S 3 1 ⊻ S 3 4))
-    ∷ (S 0 3 ⊻ S 2 4 ⊻ S 1 3 ⊻ S 3 2)
-    ∷ (S 0 4 ⊻ S 2 0 ⊻ S 1 4 ⊻ S 3 3)
+    ∷ ((S 0 0 ⊻ S 1 0 ⊻ S 2 1 ⊻ S 3 4)
+    ∷ (S 0 1 ⊻ S 1 1 ⊻ (S 2 2 ⊻ S 2 0) ⊻ S 3 0)
+    ∷ (S 0 2 ⊻ S 1 2 ⊻ S 2 3 ⊻ (S 3 1 ⊻ S 3 4))
+    ∷ (S 0 3 ⊻ S 1 3 ⊻ S 2 4 ⊻ S 3 2)
+    ∷ (S 0 4 ⊻ S 1 4 ⊻ S 2 0 ⊻ S 3 3)
     ∷ [])
-    ∷ ((S 0 0 ⊻ S 1 4 ⊻ (S 2 0 ⊻ S 3 1))
-    ∷ (S 0 1 ⊻ S 1 0 ⊻ (S 2 1 ⊻ S 2 4 ⊻ S 3 2 ⊻ (S 2 4 ⊻ S 3 0)))
-    ∷ (S 0 2 ⊻ (S 1 1 ⊻ S 1 4) ⊻ (S 2 2 ⊻ S 3 3))
-    ∷ (S 0 3 ⊻ S 1 2 ⊻ (S 2 3 ⊻ S 3 4))
-    ∷ (S 0 4 ⊻ S 1 3 ⊻ (S 2 4 ⊻ S 3 0))
+    ∷ ((S 0 0 ⊻ S 1 4 ⊻ S 2 0 ⊻ S 3 1)
+    ∷ (S 0 1 ⊻ S 1 0 ⊻ S 2 1 ⊻ (S 3 2 ⊻ S 3 0))
+    ∷ (S 0 2 ⊻ (S 1 1 ⊻ S 1 4) ⊻ S 2 2 ⊻ S 3 3)
+    ∷ (S 0 3 ⊻ S 1 2 ⊻ S 2 3 ⊻ S 3 4)
+    ∷ (S 0 4 ⊻ S 1 3 ⊻ S 2 4 ⊻ S 3 0)
     ∷ [])
-    ∷ ((S 0 0 ⊻ S 1 1 ⊻ (S 2 4 ⊻ S 3 0))
-    ∷ (S 0 1 ⊻ (S 1 2 ⊻ S 1 0) ⊻ (S 2 0 ⊻ S 3 1))
-    ∷ (S 0 2 ⊻ S 1 3 ⊻ (S 2 1 ⊻ S 2 4 ⊻ S 3 2))
-    ∷ (S 0 3 ⊻ S 1 4 ⊻ (S 2 2 ⊻ S 3 3))
-    ∷ (S 0 4 ⊻ S 1 0 ⊻ (S 2 3 ⊻ S 3 4))
+    ∷ ((S 0 0 ⊻ S 1 1 ⊻ S 2 4 ⊻ S 3 0)
+    ∷ (S 0 1 ⊻ (S 1 2 ⊻ S 1 0) ⊻ S 2 0 ⊻ S 3 1)
+    ∷ (S 0 2 ⊻ S 1 3 ⊻ (S 2 1 ⊻ S 2 4) ⊻ S 3 2)
+    ∷ (S 0 3 ⊻ S 1 4 ⊻ S 2 2 ⊻ S 3 3)
+    ∷ (S 0 4 ⊻ S 1 0 ⊻ S 2 3 ⊻ S 3 4)
     ∷ [])
     ∷ []
 

@@ -1,18 +1,17 @@
--- ψ on whole words is the S-box at each bit position.
+-- The S-box on whole words, by the differences of neighbours, is the paper's formula at each bit position.
 -- Assumes nothing.
 use mathlib.Core.Path.{_≡_, refl, sym, ap₂, _∙_}
 use mathlib.Core.Bool.{Bool, true, false, not, _&&_, _||_}
-use mathlib.Core.List.{[]}
 use Prim.Native.Nat.{ℕ, _+_, _%_, _^_, _<_}
-use lib.Bits.{bitXor, bitOr}
+use lib.Bits.{bitXor, bitAnd, bitOr}
 use lib.ListN.{getD}
 use Rattle.bits.specs.Bits.{_⊕_, bit, word}
 use Rattle.bits.proofs.Laws.{by-bits, bit-xor, bit-and, bit-or, bit-not}
 use Rattle.bits.proofs.Xor.{xor-assoc}
-use Rattle.permutation.specs.State.{State, tabulate, at}
-use Rattle.permutation.specs.Permutation.{sbox, ψ}
-use Rattle.permutation.specs.Words.{Column, sboxWord, sboxWords, ~}
-use Rattle.permutation.proofs.Columns.{xor64, and64, not64, or64}
+use Rattle.permutation.specs.State.{tabulate}
+use Rattle.permutation.specs.Permutation.{sbox}
+use Rattle.permutation.specs.Words.{Column, sboxWords}
+use Rattle.permutation.proofs.Columns.{~, xor64, and64, not64, or64}
 
 and-difference : (a b : Bool) → b && (a ⊕ b) ≡ not a && b
 and-difference false false = refl
@@ -45,20 +44,24 @@ module _ (m : Column) (h : (k : ℕ) → getD m k 0 < 2 ^ 64) where
   abbrev M : ℕ → ℕ
   M k = getD m k 0
 
+  -- 1 where two neighbours differ
   abbrev differing : ℕ
   differing = bitOr (bitOr (bitOr (bitXor (M 0) (M 1)) (bitXor (M 1) (M 2))) (bitXor (M 2) (M 3))) (bitXor (M 3) (M 4))
+
+  -- word k as the code works it out
+  abbrev by-differing : ℕ → ℕ
+  by-differing k = bitXor (bitXor (M k) (bitAnd (M ((k + 2) % 5)) (bitXor (M ((k + 1) % 5)) (M ((k + 2) % 5))))) (~ differing)
 
   bit-same : (z : ℕ) → z < 64 → bit (~ differing) z ≡ not (bit differing z)
   bit-same z l = bit-not 64 differing z (search (or64, xor64, h) depth 12) l
 
-  box : (k : ℕ) → sboxWord m k ≡ word (λ z. sbox (λ j. bit (M j) z) k)
+  box : (k : ℕ) → by-differing k ≡ word (λ z. sbox (λ j. bit (M j) z) k)
   box k =
-      by-bits (sboxWord m k) (λ z. sbox (λ j. bit (M j) z) k) (search (xor64, and64, not64, h) depth 12)
+      by-bits (by-differing k) (λ z. sbox (λ j. bit (M j) z) k) (search (xor64, and64, not64, h) depth 12)
       (λ z l.
       simp (bit-xor, bit-and, bit-same, bit-or)
       (by-differences (bit (M k) z) (bit (M ((k + 1) % 5)) z) (bit (M ((k + 2) % 5)) z)
       (bit (M 0) z) (bit (M 1) z) (bit (M 2) z) (bit (M 3) z) (bit (M 4) z)))
 
-pub psi-agrees : (s : State) → ((x y : ℕ) → at s x y < 2 ^ 64) → tabulate 4 (λ x. sboxWords (getD s x [])) ≡ ψ s
-unfolding ψ
-psi-agrees s h i = tabulate 4 (λ x. tabulate 5 (λ k. box (getD s x []) (h x) k i))
+  pub sbox-agrees : tabulate 5 by-differing ≡ sboxWords m
+  sbox-agrees i = tabulate 5 (λ k. box k i)

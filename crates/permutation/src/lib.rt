@@ -1,18 +1,29 @@
-// The permutation of ICEPOLE (003, 2.5). Each step takes the state S[x][y] by value and returns it; the rounds are done in place.
+// The permutation P of ICEPOLE, for a reader who has the paper's section 2.5 beside it: the tables, the five steps in the order of 2.5, the round, the rounds.
+// What stands in quotes is the paper's. Each step takes the state S by value and returns it; the rounds are done in place.
 ghost use mathlib.Core.Path.{_≡_};
 ghost use Prim.Native.Nat.{_≤_, _<_};
 ghost use lib.ListN.{getD};
 ghost use Rattle.bits.specs.Bits.{wordLength};
-ghost use Rattle.permutation.specs.Permutation.{μ, ρ, π, ψ, P, rotl, addConstant, start};
-ghost use Rattle.permutation.specs.Words.{twiceWords, times18Words, sum2Words, sum3Words, rotlColumn, sboxWords, roundWith};
+ghost use Rattle.permutation.specs.Permutation.{μ, ρ, π, ψ, κ, P, constants, rotl, start};
+ghost use Rattle.permutation.specs.Words.{twiceWords, times18Words, sumWords, rotlColumn, sboxWords};
+ghost use Rattle.permutation.specs.Steps.{stepsOf};
 
 // Four columns of five words: the word S[x][y] is s[x][y].
 type State = [[u64; 5]; 4];
 
-// Five words: at each bit position an element of GF(2^5), the word y holding its coefficient at a^y.
+// The five words of one x. In mu they are an element of GF(2^5) at each bit position, the word y holding its coefficient at a^y (a is the paper's x).
 type Column = [u64; 5];
 
-// The round constants (003, Appendix A), read as ordinary hex numbers (01).
+// "The rotation offsets are as follows" (003, 2.5, ρ): offsets[x][y] is OFFSETS[x][y].
+const OFFSETS: [[u32; 5]; 4] = [
+    [0, 36, 3, 41, 18],
+    [1, 44, 10, 45, 2],
+    [62, 6, 43, 15, 61],
+    [28, 55, 25, 21, 56],
+];
+
+// "For implementors convenience the constant values are given in Appendix A" (003, 2.5, κ). Read as ordinary hex numbers (01),
+// though the paper says "little-endian format".
 const CONSTANTS: [u64; 12] = [
     0x0091A2B3C4D5E6F7,
     0x0048D159E26AF37B,
@@ -28,7 +39,7 @@ const CONSTANTS: [u64; 12] = [
     0x00001234F7F89ABC,
 ];
 
-// The starting words (003, 2.6), read as ordinary hex numbers (01).
+// "The state is initialized as follows" (003, 2.6). Read as ordinary hex numbers (01), though the paper says "little-endian format".
 const START: [[u64; 5]; 4] = [
     [
         0xFF97A42D7F8E6FD4,
@@ -60,54 +71,36 @@ const START: [[u64; 5]; 4] = [
     ],
 ];
 
-// The offsets of rho (003, 2.5).
-const OFFSETS: [[u32; 5]; 4] = [
-    [0, 36, 3, 41, 18],
-    [1, 44, 10, 45, 2],
-    [62, 6, 43, 15, 61],
-    [28, 55, 25, 21, 56],
-];
-
-// Times 2, that is a.
+// "There are only three distinct terms in the chosen matrix, namely 18, 2, 1 and they correspond to the polynomials x^4 + x, x, and 1, respectively" (003, 2.5, μ).
+// Times 2, that is a, at every bit position; a^5 = a^2 + 1.
 fn twice(p: Column) -> Column
     ensures { λ r. ⌜ r ≡ twiceWords p ⌝ }
 {
     [p[4], p[0], p[1] ^ p[4], p[2], p[3]]
 }
 
-// Times 18, that is a^4 + a. It undoes times 2: 2 · 18 = 1.
+// Times 18, that is a^4 + a (003, 2.5, μ). It undoes times 2: 2 · 18 = 1.
 fn times18(p: Column) -> Column
     ensures { λ r. ⌜ r ≡ times18Words p ⌝ }
 {
     [p[1], p[2] ^ p[0], p[3], p[4], p[0]]
 }
 
-fn sum2(p: Column, q: Column) -> Column
-    ensures { λ r. ⌜ r ≡ sum2Words p q ⌝ }
+// "The operations are done in GF(2^5)" (003, 2.5, μ): the sum of four elements.
+fn sum(p: Column, q: Column, t: Column, u: Column) -> Column
+    ensures { λ r. ⌜ r ≡ sumWords p q t u ⌝ }
 {
     [
-        p[0] ^ q[0],
-        p[1] ^ q[1],
-        p[2] ^ q[2],
-        p[3] ^ q[3],
-        p[4] ^ q[4],
+        p[0] ^ q[0] ^ t[0] ^ u[0],
+        p[1] ^ q[1] ^ t[1] ^ u[1],
+        p[2] ^ q[2] ^ t[2] ^ u[2],
+        p[3] ^ q[3] ^ t[3] ^ u[3],
+        p[4] ^ q[4] ^ t[4] ^ u[4],
     ]
 }
 
-fn sum3(p: Column, q: Column, t: Column) -> Column
-    ensures { λ r. ⌜ r ≡ sum3Words p q t ⌝ }
-{
-    [
-        p[0] ^ q[0] ^ t[0],
-        p[1] ^ q[1] ^ t[1],
-        p[2] ^ q[2] ^ t[2],
-        p[3] ^ q[3] ^ t[3],
-        p[4] ^ q[4] ^ t[4],
-    ]
-}
-
-// The rows of the matrix, times the vector (z0, z1, z2, z3). Rows 0 and 1 share 2 z0 + z2, since 18(2 z0 + z2) = z0 + 18 z2; rows 2 and 3 share 2 z2 + z3.
-// Each shared sum stands next to its rows: in this order the compiler holds more of them in registers.
+// "Formally, a column vector (Z_0, Z_1, Z_2, Z_3) is multiplied by a constant matrix producing a vector of four 5-bit words" (003, 2.5, μ), here at every bit
+// position. Each line has its row of the matrix beside it. Appendix B says the same by equations; that they agree is proved (AppendixBAgrees, in crates/claims).
 fn mu(s: State) -> State
     ensures { λ r. ⌜ r ≡ μ s ⌝ }
 {
@@ -115,16 +108,14 @@ fn mu(s: State) -> State
     let z1 = s[1];
     let z2 = s[2];
     let z3 = s[3];
-    let z02 = sum2(twice(z0), z2);
-    let row0 = sum3(z02, z1, z3);
-    let row1 = sum3(times18(z02), z1, twice(z3));
-    let z23 = sum2(twice(z2), z3);
-    let row3 = sum3(z0, times18(z1), z23);
-    let row2 = sum3(z0, twice(z1), times18(z23));
+    let row0 = sum(twice(z0), z1, z2, z3); //  2  1  1  1
+    let row1 = sum(z0, z1, times18(z2), twice(z3)); //  1  1 18  2
+    let row2 = sum(z0, twice(z1), z2, times18(z3)); //  1  2  1 18
+    let row3 = sum(z0, times18(z1), twice(z2), z3); //  1 18  2  1
     [row0, row1, row2, row3]
 }
 
-// w rotated left by k.
+// "The bitwise rotation moves bit at position z into position (z + r_value) modulo 64" (003, 2.5, ρ): w rotated left by k.
 fn rotate(w: u64, k: u32) -> u64
     requires { ⌜ k < wordLength ⌝ }
     ensures { λ r. ⌜ r ≡ rotl w k ⌝ }
@@ -135,7 +126,7 @@ fn rotate(w: u64, k: u32) -> u64
     (w << k) | (w >> (64 - k))
 }
 
-// The words of a column, each rotated left by its offset.
+// The words of a column, each rotated left by its offset: "S[x][y] := S[x][y] <<< offsets[x][y]" for one x (003, 2.5, ρ).
 fn rotate_column(w: Column, k: [u32; 5]) -> Column
     requires { ⌜ (getD k 0 0 < wordLength) × (getD k 1 0 < wordLength) × (getD k 2 0 < wordLength) × (getD k 3 0 < wordLength) × (getD k 4 0 < wordLength) ⌝ }
     ensures { λ r. ⌜ r ≡ rotlColumn w k ⌝ }
@@ -149,6 +140,7 @@ fn rotate_column(w: Column, k: [u32; 5]) -> Column
     ]
 }
 
+// "The ρ step is the bitwise rotation applied to each of the twenty 64-bit words of the state" (003, 2.5, ρ).
 fn rho(s: State) -> State
     ensures { λ r. ⌜ r ≡ ρ s ⌝ }
 {
@@ -161,24 +153,25 @@ fn rho(s: State) -> State
     ]
 }
 
-// The word of (x, y) goes to x' = (x + y) mod 4, y' = (x' + y + 1) mod 5; each place below names the word that comes to it.
+// "Words are moved from S[x][y] to S[x'][y']" (003, 2.5, π), where x' = (x + y) mod 4 and y' = (x' + y + 1) mod 5. The place (x', y') below names the word that
+// comes to it: y = (y' - x' - 1) mod 5, and x = (x' - y) mod 4.
 fn pi(s: State) -> State
     ensures { λ r. ⌜ r ≡ π s ⌝ }
 {
-    let a = s[0];
-    let b = s[1];
-    let c = s[2];
-    let d = s[3];
     [
-        [a[4], a[0], d[1], c[2], b[3]],
-        [c[3], b[4], b[0], a[1], d[2]],
-        [a[2], d[3], c[4], c[0], b[1]],
-        [c[1], b[2], a[3], d[4], d[0]],
+        [s[0][4], s[0][0], s[3][1], s[2][2], s[1][3]],
+        [s[2][3], s[1][4], s[1][0], s[0][1], s[3][2]],
+        [s[0][2], s[3][3], s[2][4], s[2][0], s[1][1]],
+        [s[2][1], s[1][2], s[0][3], s[3][4], s[3][0]],
     ]
 }
 
-// The S-box at each bit position of five words, by the differences of neighbours. Where all five agree, every bit is negated.
-fn sbox_words(m: Column) -> Column
+// "The S-box maps a 5-bit input vector (M_0, M_1, .., M_4) to a 5-bit output vector (Z_0, Z_1, .., Z_4)" (003, 2.5, ψ), here at every bit position of five words.
+// Indices are modulo 5; AND is not written, as in the paper:
+//     Z_k = M_k ⊕ (¬M_(k+1) M_(k+2)) ⊕ (M_0 M_1 M_2 M_3 M_4) ⊕ (¬M_0 ¬M_1 ¬M_2 ¬M_3 ¬M_4)
+// By differences of neighbours, which is faster: ¬M_(k+1) M_(k+2) is M_(k+2) where the two differ, else 0; the last two terms together are 1 exactly where all five
+// bits are the same, that is, where the first four differences are 0.
+fn sbox_by_differences(m: Column) -> Column
     ensures { λ r. ⌜ r ≡ sboxWords m ⌝ }
 {
     let d0 = m[0] ^ m[1];
@@ -196,60 +189,75 @@ fn sbox_words(m: Column) -> Column
     ]
 }
 
-// The order of the columns is the one that runs fastest (make bench).
+// "In the ψ step the ICEPOLE S-box is applied to each of 256 rows of the state" (003, 2.5, ψ). A row is the five bits of one x and z; the 64 rows of an x are done
+// at once. The order of the four lines takes the fewest instructions.
 fn psi(s: State) -> State
     ensures { λ r. ⌜ r ≡ ψ s ⌝ }
 {
-    let column2 = sbox_words(s[2]);
-    let column3 = sbox_words(s[3]);
-    let column0 = sbox_words(s[0]);
-    let column1 = sbox_words(s[1]);
+    let column1 = sbox_by_differences(s[1]);
+    let column3 = sbox_by_differences(s[3]);
+    let column2 = sbox_by_differences(s[2]);
+    let column0 = sbox_by_differences(s[0]);
     [column0, column1, column2, column3]
 }
 
-// The step kappa, with the constant of the round.
-fn kappa(s: State, constant: u64) -> State
-    ensures { λ r. ⌜ r ≡ addConstant s constant ⌝ }
+// "In κ the 64-bit constant is xored with S[0][0]" (003, 2.5, κ): "S[0][0] := S[0][0] ⊕ constant[numberOfRound]".
+fn kappa(s: State, constant: &[u64; 12], number: usize) -> State
+    requires { ⌜ (number < 12) × (now constant ≡ constants) ⌝ }
+    ensures { λ r. ⌜ r ≡ κ s number ⌝ }
 {
     let mut t = s;
-    t[0][0] = t[0][0] ^ constant;
+    t[0][0] = t[0][0] ^ constant[number];
     t
 }
 
-// A round, with its constant.
-fn round(s: State, constant: u64) -> State
-    ensures { λ r. ⌜ r ≡ roundWith s constant ⌝ }
+// The place of the state after kappa, which is the state after the round, among those that round returns.
+const AFTER_KAPPA: usize = 4;
+
+// "Each round R consists of five steps" (003, 2.5): R = κ ∘ ψ ∘ π ∘ ρ ∘ μ. The state after each step is returned, so that the contract can speak of each.
+fn round(s: State, constant: &[u64; 12], number: usize) -> [State; 5]
+    requires { ⌜ (number < 12) × (now constant ≡ constants) ⌝ }
+    ensures { λ r. ⌜ r ≡ stepsOf s number ⌝ }
 {
-    kappa(psi(pi(rho(mu(s)))), constant)
+    let after_mu = mu(s);
+    let after_rho = rho(after_mu);
+    let after_pi = pi(after_rho);
+    let after_psi = psi(after_pi);
+    let after_kappa = kappa(after_psi, constant, number);
+    [after_mu, after_rho, after_pi, after_psi, after_kappa]
 }
 
-// The first n rounds, in place. The table is copied once, and round has one call site, for speed.
+// "P is an iterated permutation and a number of rounds is a parameter of the permutation" (003, 2.5): the first n rounds, in place. The table is copied once, and
+// round has one call site, for speed.
 fn rounds(s: &mut State, n: usize)
     requires { ⌜ n ≤ 12 ⌝ }
     ensures { λ _. ⌜ now (s .exit) ≡ P n (now (s .entry)) ⌝ }
 {
-    let table = CONSTANTS;
+    let constant = CONSTANTS;
     let mut t = *s;
     for i in 0..n {
-        let u = round(t, table[i]);
-        t = u;
+        let states = round(t, &constant, i);
+        t = states[AFTER_KAPPA];
     }
     *s = t;
 }
 
-// P6 and P12 in place: a state that is copied after a permutation has to wait for its words.
+// "In the presented algorithm the 6- and 12-round variants (denoted by P_6 and P_12) are used" (003, 2.5): P_6 in place, so that callers copy no
+// state.
 pub fn permute6(s: &mut State)
     ensures { λ _. ⌜ now (s .exit) ≡ P 6 (now (s .entry)) ⌝ }
 {
     rounds(s, 6);
 }
 
+// P_12 in place (003, 2.5).
 pub fn permute12(s: &mut State)
     ensures { λ _. ⌜ now (s .exit) ≡ P 12 (now (s .entry)) ⌝ }
 {
     rounds(s, 12);
 }
 
+// P_6 by value (003, 2.5).
 pub fn p6(s: State) -> State
     ensures { λ r. ⌜ r ≡ P 6 s ⌝ }
 {
@@ -258,6 +266,7 @@ pub fn p6(s: State) -> State
     t
 }
 
+// P_12 by value (003, 2.5).
 pub fn p12(s: State) -> State
     ensures { λ r. ⌜ r ≡ P 12 s ⌝ }
 {
@@ -266,7 +275,7 @@ pub fn p12(s: State) -> State
     t
 }
 
-// The state before key and nonce.
+// "First, the state is initialized with the 1280-bit pseudorandom constant" (003, 2.6): the state before key and nonce.
 pub fn start_state() -> State
     ensures { λ r. ⌜ r ≡ start ⌝ }
 {

@@ -1,21 +1,22 @@
--- `permutation::psi` meets its contract: each column goes through the S-box on words, which is the S-box on bits.
+-- `permutation::psi` meets its contract: each column is what `sbox_by_differences` ensures.
 -- Assumes nothing.
-use mathlib.Core.Path.{_∙_}
 use mathlib.Core.List.{[], _∷_}
 use borrow.Author.Needs.{needs}
-use Rattle.permutation.proofs.Bounds.{words}
-use Rattle.permutation.proofs.SBox.{psi-agrees}
+use Rattle.permutation.specs.Permutation.{ψ}
 use Rattle.permutation.proofs.psi.Statement.{statement}
 use Rattle.permutation.proofs.psi.Tie as tie
 
 returns : tie.Need-returns
-returns c =
-    let at-0 = c .before .before in
-    let at-3 = at-0 .before .before in
-    let at-2 = at-3 .before .before in
-    let start = at-2 .before .before in
-    (λ i. at-0 .sbox-words3 .ensures i ∷ c .sbox-words4 .ensures i ∷ at-2 .sbox-words .ensures i ∷ at-3 .sbox-words2 .ensures i ∷ [])
-    ∙ psi-agrees (start .args .t1) (words (start .args .t1) _ (start .good .0))
+unfolding ψ
+returns c i =
+    let at-2 = c .before .before in
+    let at-3 = at-2 .before .before in
+    let at-1 = at-3 .before .before in
+    c .sbox-by-differences4 .ensures i
+    ∷ at-1 .sbox-by-differences .ensures i
+    ∷ at-2 .sbox-by-differences3 .ensures i
+    ∷ at-3 .sbox-by-differences2 .ensures i
+    ∷ []
 
 pub psi-spec : {M : Type 1} → statement M
 psi-spec =

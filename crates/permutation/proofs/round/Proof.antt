@@ -1,20 +1,12 @@
--- `permutation::round` meets its contract: the five steps, in the paper's order.
+-- `permutation::round` meets its contract: each statement makes the next state by its step.
 -- Assumes nothing.
-use mathlib.Core.Path.{ap, _∙_}
 use borrow.Author.Needs.{needs}
-use Rattle.permutation.specs.State.{State}
-use Rattle.permutation.specs.Permutation.{ρ, π, ψ, addConstant}
-use Rattle.permutation.specs.Words.{roundWith}
+use Rattle.permutation.proofs.Steps.{steps-agree}
 use Rattle.permutation.proofs.round.Statement.{statement}
 use Rattle.permutation.proofs.round.Tie as tie
 
 returns : tie.Need-returns
-unfolding roundWith
-returns c =
-    let after-mu = c .before .before .before .before in
-    c .kappa .ensures
-    ∙ ap (λ (t : State). addConstant t (after-mu .before .args .constant))
-    (c .before .psi .ensures ∙ ap ψ (c .before .before .pi .ensures ∙ ap π (c .before .before .before .rho .ensures ∙ ap ρ (after-mu .mu .ensures))))
+returns c = steps-agree _ _ _ _ _ _ _ (search needs) (search needs) (search needs) (search needs) (search needs)
 
 pub round-spec : {M : Type 1} → statement M
 round-spec =
