@@ -43,6 +43,11 @@ fn no_other_blocks() {
         "hex associated data of 140 bytes",
         "words starting words",
         "words constants",
+        "words after mu",
+        "words after rho",
+        "words after pi",
+        "words after psi",
+        "words after kappa",
         "words P6 of zero",
         "numbers offsets",
         "text listing",
@@ -470,6 +475,18 @@ fn tables_of_the_permutation() {
     let p6: [fn(State) -> State; 2] = [bits::p6, words::p6];
     for p6 in p6 {
         assert_eq!(page::words("P6 of zero"), in_word_order(p6(ZERO_STATE)));
+    }
+}
+
+#[test]
+fn steps_of_a_round() {
+    let steps: [fn(State, usize) -> [State; 5]; 2] = [bits::steps, words::steps];
+    for steps in steps {
+        let shown = ["mu", "rho", "pi", "psi", "kappa"];
+        for (name, after) in shown.iter().zip(steps(STARTING_WORDS, 0)) {
+            let block = page::words(&format!("after {name}"));
+            assert_eq!(block, in_word_order(after), "after {name}");
+        }
     }
 }
 

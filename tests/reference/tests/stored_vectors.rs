@@ -1,9 +1,10 @@
-//! The vectors' text: its form, and its equality with the stored file.
+//! The vectors' text: its form, and its equality with the stored file. The
+//! round that the definitions are held to.
 
 use std::fs;
 use std::path::Path;
 
-use reference::permutation::{words, State, ZERO_STATE};
+use reference::permutation::{bits, words, State, STARTING_WORDS, ZERO_STATE};
 use reference::sealing::{open, Variant};
 use reference::vectors::{permutation_vectors, sealing_vectors, vector_state};
 
@@ -46,6 +47,32 @@ fn vectors_equal_the_stored_file() {
 #[test]
 fn sealing_vectors_equal_the_stored_file() {
     check_stored("sealing_vectors", &sealing_vectors());
+}
+
+/// The words of a definition's file, which writes each as 0x and 16 digits.
+fn words_of(text: &str) -> Vec<u64> {
+    let word = |digits: &str| u64::from_str_radix(digits.get(..16)?, 16).ok();
+    text.split("0x")
+        .skip(1)
+        .map(|rest| word(rest).unwrap())
+        .collect()
+}
+
+/// Round 0 of the starting words, step by step: the prover holds the
+/// definitions to these numbers, and they are the reference's.
+#[test]
+fn the_worked_round_is_the_references() {
+    let path = Path::new(CRATES).join("permutation/specs/WorkedRound.antt");
+    let text = fs::read_to_string(&path)
+        .unwrap_or_else(|error| panic!("cannot read {}: {error}", path.display()));
+    let steps: [fn(State, usize) -> [State; 5]; 2] = [bits::steps, words::steps];
+    for steps in steps {
+        let worked: Vec<u64> = steps(STARTING_WORDS, 0)
+            .as_flattened()
+            .as_flattened()
+            .to_vec();
+        assert_eq!(words_of(&text), worked);
+    }
 }
 
 #[test]
