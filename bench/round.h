@@ -1,6 +1,7 @@
 /*
  * The round of ICEPOLE in C (003, 2.5, Appendix A and B), for comparison. Plain: Appendix B for mu, the paper's formula for psi.
- * With SHAPED: the shapes of the proved code (crates/permutation).
+ * With SHAPED: mu by the matrix with two sums shared by hand, psi by the differences of neighbours. The proved code (crates/permutation) has this psi, and mu row by
+ * row. With that mu gcc's code is slower, so the shape that is harder to beat stands here (docs/DECISIONS.md, 97).
  */
 #include <stdint.h>
 #include <string.h>
@@ -26,7 +27,7 @@ static inline void round_function(u64 s[4][5], u64 constant)
 {
     u64 t[4][5];
 #ifdef SHAPED
-    /* mu by the matrix, sharing 2a + c and 2c + d as the proved code does */
+    /* mu by the matrix, sharing 2a + c and 2c + d */
     const u64 *a = s[0], *b = s[1], *c = s[2], *d = s[3];
     u64 p[5] = {a[4] ^ c[0], a[0] ^ c[1], a[1] ^ a[4] ^ c[2], a[2] ^ c[3], a[3] ^ c[4]};
     u64 q[5] = {c[4] ^ d[0], c[0] ^ d[1], c[1] ^ c[4] ^ d[2], c[2] ^ d[3], c[3] ^ d[4]};

@@ -48,9 +48,9 @@ instructions() {
 }
 counted() {
     command -v valgrind >/dev/null || { echo "| instructions | valgrind is not installed | | | |"; return; }
-    instructions "of one P6" "$(p6 proved)" "$(p6 plain)" 1700
+    instructions "of one P6" "$(p6 proved)" "$(p6 plain)" 1820
     instructions "of a 128-byte block sealed" "$(block seal)" "$(block plain_seal)" 1850
-    instructions "of a 128-byte block opened" "$(block open)" "$(block plain_open)" 3900
+    instructions "of a 128-byte block opened" "$(block open)" "$(block plain_open)" 3850
 }
 machine() {
     echo "Written by \`make bench\` on $(date -u +%Y-%m-%d)."

@@ -1,6 +1,6 @@
 /*
  * Times the proved sealing, verifying and opening against C, turn about in one run.
- *   sealing                 two tables of the page: ratios to C written plainly, and to C with the shapes of the proved code
+ *   sealing                 two tables of the page: ratios to plain C, and to shaped C (round.h)
  *   sealing rate BYTES      bytes a second of the proved calls on messages of so many bytes, for bench/openssl.sh
  *   sealing CALL BYTES      one call on so many bytes, for callgrind; CALL is seal, open, plain_seal, plain_open, or none
  */

@@ -169,7 +169,7 @@ block() {
 p6() {
     rt staticlib permutation_bench >build/p6.log 2>&1 || { cat build/p6.log; return 1; }
     gcc -std=c11 -D_POSIX_C_SOURCE=200809L -Wall -Wextra -Werror -O2 bench/p6.c bench/permutation.c target/staticlib/libpermutation_bench.a -o build/p6 || return 1
-    counted 1000 "a P6" 1700 1001 1 build/p6 proved
+    counted 1000 "a P6" 1820 1001 1 build/p6 proved
 }
 
 # No division in compiled code, neither as an instruction nor as a call of one: its time may depend on what is divided, and the source takes bytes of secrets
@@ -230,7 +230,7 @@ step "the example, sanitized" c_sanitized examples/firmware.c libburst_c.a build
 step "icepole from build/lib" moved_folder tests/c_calls/c/roundtrip.c icepole
 step "burst from build/lib" moved_folder examples/firmware.c burst build/card.burst
 step "instructions of a sealed block" block icepole128_seal 1850
-step "instructions of an opened block" block icepole128_open 3900
+step "instructions of an opened block" block icepole128_open 3850
 step "instructions of a P6" p6
 step "no division in the libraries" no_division target/staticlib/libicepole_c.a target/staticlib/libburst_c.a
 step "and one that is there is seen" division_seen
