@@ -1,7 +1,8 @@
 //! The ICEPOLE permutation (003, 2.3 to 2.5), in two versions.
 //!
 //! `bits` follows the definitions bit by bit. `words` does the same steps on
-//! 64 bit positions at once. Both have the same function names.
+//! 64 bit positions at once. Both have the same function names, but for
+//! `steps`, the states within a round, which `bits` alone has.
 
 pub mod bits;
 pub mod tables;

@@ -50,20 +50,19 @@ fn psi_agrees() {
     check_step(bits::psi, words::psi);
 }
 
-/// The fifth state of `steps` is that after the round, and each of the others
-/// is what its step makes of the state before.
+/// Each state of `steps` is what the word-level step makes of the state before,
+/// and the fifth is the state after the round.
 #[test]
 fn steps_agree() {
+    let step: [fn(State) -> State; 4] = [words::mu, words::rho, words::pi, words::psi];
     for state in states() {
         for number in 0..12 {
             let steps = bits::steps(state, number);
-            assert_eq!(steps, words::steps(state, number), "round {number}");
-            assert_eq!(steps[4], bits::round(state, number), "round {number}");
             let before = [state, steps[0], steps[1], steps[2]];
-            let step: [fn(State) -> State; 4] = [bits::mu, bits::rho, bits::pi, bits::psi];
             for k in 0..4 {
                 assert_eq!(steps[k], step[k](before[k]), "round {number}, step {k}");
             }
+            assert_eq!(steps[4], words::round(state, number), "round {number}");
         }
     }
 }

@@ -65,14 +65,8 @@ fn the_worked_round_is_the_references() {
     let path = Path::new(CRATES).join("permutation/specs/WorkedRound.antt");
     let text = fs::read_to_string(&path)
         .unwrap_or_else(|error| panic!("cannot read {}: {error}", path.display()));
-    let steps: [fn(State, usize) -> [State; 5]; 2] = [bits::steps, words::steps];
-    for steps in steps {
-        let worked: Vec<u64> = steps(STARTING_WORDS, 0)
-            .as_flattened()
-            .as_flattened()
-            .to_vec();
-        assert_eq!(words_of(&text), worked);
-    }
+    let worked = bits::steps(STARTING_WORDS, 0);
+    assert_eq!(words_of(&text), worked.as_flattened().as_flattened());
 }
 
 #[test]

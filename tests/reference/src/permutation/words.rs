@@ -83,16 +83,6 @@ pub fn kappa(mut state: State, number: usize) -> State {
     state
 }
 
-/// The state after each of the five steps of a round: after mu, rho, pi, psi,
-/// kappa.
-pub fn steps(state: State, number: usize) -> [State; 5] {
-    let mixed = mu(state);
-    let rotated = rho(mixed);
-    let moved = pi(rotated);
-    let boxed = psi(moved);
-    [mixed, rotated, moved, boxed, kappa(boxed, number)]
-}
-
 /// One round: mu, rho, pi, psi, kappa, in that order.
 pub fn round(state: State, number: usize) -> State {
     kappa(psi(pi(rho(mu(state)))), number)
