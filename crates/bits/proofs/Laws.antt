@@ -1,12 +1,12 @@
 -- The bits of a number: a word is made of its bits, and the operations work on each bit apart.
 -- Assumes nothing.
-use mathlib.Core.Path.{_≡_, refl, sym, ap, ap₂, _∙_}
+use mathlib.Core.Path.{_≡_, refl, sym, ap, ap₂, _∙_, subst⁻¹}
 use mathlib.Core.Bool.{Bool, true, false, not, _&&_, _||_}
 use Prim.Native.Nat.{ℕ, zero, suc, _+_, _-_, _*_, _/_, _%_, _^_, _<_}
-use native.Mathlib.Nat.{mod-lt, zero-lt-suc, not-suc-le-zero, le-of-suc-le-suc, pow-suc}
+use native.Mathlib.Nat.{mod-lt, zero-div, one-mul, zero-lt-suc, not-suc-le-zero, le-of-suc-le-suc, pow-suc}
 use native.Mathlib.Omega.{arith}
-use lib.Dec.{eqb}
-use lib.Pow.{shr-shr, field, mod-mod-pow, high, low}
+use lib.Dec.{eqb, lit<, eqb·zero-suc, eqb·suc-zero, eqb·suc-suc}
+use lib.Pow.{shl-exact, shr-shr, field, mod-mod-pow, high, low}
 use lib.Bits.{bitAnd, bitXor, bitOr, or-shr, or-mod, and-shr, and-mod, xor-shr, xor-mod}
 use Rattle.bits.specs.Bits.{_⊕_, bit, digit, number, word}
 use Rattle.bits.proofs.Cases.{two}
@@ -24,8 +24,13 @@ bit-suc n z =
     let e : suc z ≡ 1 + z = omega arith in
     ap (λ (k : ℕ). eqb (n / 2 ^ k % 2) 1) e ∙ ap (λ (k : ℕ). eqb (k % 2) 1) (sym (shr-shr n 1 z))
 
-digit-odd : (n : ℕ) → digit (bit n 0) ≡ n % 2
-digit-odd n = ap digit (bit-zero n) ∙ two (λ k. digit (eqb k 1) ≡ k) refl refl (n % 2) (odd n)
+-- a bit as a number
+pub digit-bit : (n z : ℕ) → digit (bit n z) ≡ n / 2 ^ z % 2
+unfolding bit
+digit-bit n z = two (λ k. digit (eqb k 1) ≡ k) refl refl (n / 2 ^ z % 2) (odd (n / 2 ^ z))
+
+pub digit-odd : (n : ℕ) → digit (bit n 0) ≡ n % 2
+digit-odd n = digit-bit n 0 ∙ ap (λ (k : ℕ). k % 2) (let e : n / 1 ≡ n = omega arith in e)
 
 half-below : {n : ℕ} (k : ℕ) → n < 2 ^ suc k → n / 2 < 2 ^ k
 half-below {n} k h = let e : n < 2 ^ k * 2 = rw pow-suc at h in omega arith
@@ -49,6 +54,44 @@ number-same (suc k) f g h =
 -- a word is known by its bits
 pub by-bits : (n : ℕ) (f : ℕ → Bool) → n < 2 ^ 64 → ((z : ℕ) → z < 64 → bit n z ≡ f z) → n ≡ word f
 by-bits n f h e = sym (made-of-bits 64 n h) ∙ number-same 64 (bit n) f e
+
+digit-below : (b : Bool) → digit b < 2
+digit-below false = lit< tt
+digit-below true = lit< tt
+
+-- what is made of k bits is below 2^k
+pub number-below : (k : ℕ) (f : ℕ → Bool) → number k f < 2 ^ k
+unfolding number
+number-below zero f = lit< tt
+number-below (suc k) f =
+    let h = number-below k (λ z. f (suc z)) in
+    let d = digit-below (f 0) in
+    let e : digit (f 0) + 2 * number k (λ z. f (suc z)) < 2 ^ k * 2 = omega (arith, h, d) in
+    subst⁻¹ (λ (m : ℕ). digit (f 0) + 2 * number k (λ z. f (suc z)) < m) (pow-suc 2 k) e
+
+bit-none : (z : ℕ) → bit 0 z ≡ false
+unfolding bit
+bit-none z = ap (λ (k : ℕ). eqb (k % 2) 1) (zero-div (2 ^ z))
+
+-- 2^k has one bit
+pub bit-power : (k z : ℕ) → bit (2 ^ k) z ≡ eqb z k
+bit-power zero zero = bit-zero 1
+bit-power zero (suc z) = bit-suc 1 z ∙ bit-none z ∙ sym (eqb·suc-zero z)
+bit-power (suc k) zero =
+    bit-zero (2 ^ suc k)
+    ∙ ap (λ (m : ℕ). eqb (m % 2) 1) (pow-suc 2 k)
+    ∙ ap (λ (m : ℕ). eqb m 1) (let e : 2 ^ k * 2 % 2 ≡ 0 = omega arith in e)
+    ∙ sym (eqb·zero-suc k)
+bit-power (suc k) (suc z) =
+    bit-suc (2 ^ suc k) z
+    ∙ ap (λ (m : ℕ). bit (m / 2) z) (pow-suc 2 k)
+    ∙ ap (λ (m : ℕ). bit m z) (let e : 2 ^ k * 2 / 2 ≡ 2 ^ k = omega arith in e)
+    ∙ bit-power k z
+    ∙ sym (eqb·suc-suc z k)
+
+-- 1, shifted left in a word of w bits
+pub one-shifted : (w k : ℕ) → k < w → 1 * 2 ^ k % 2 ^ w ≡ 2 ^ k
+one-shifted w k h = shl-exact 1 k w (lit< tt) (omega arith) ∙ one-mul (2 ^ k)
 
 -- ---- the operations, bit by bit
 -- an operation that commutes with shifts and masks works on each bit apart, as it does on 0 and 1

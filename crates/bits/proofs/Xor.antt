@@ -1,12 +1,23 @@
 -- Exclusive or of bits: the laws by which `simp xors` puts a sum of bits in order and cancels what stands twice.
 -- Assumes nothing.
 use mathlib.Core.Path.{_≡_, refl, sym, ap, _∙_}
-use mathlib.Core.Bool.{Bool, true, false, _&&_}
+use mathlib.Core.Bool.{Bool, true, false, not, _&&_, Bool·beq}
 use Rattle.bits.specs.Bits.{_⊕_}
 
 pub xor-false : (a : Bool) → a ⊕ false ≡ a
 xor-false false = refl
 xor-false true = refl
+
+pub xor-true : (a : Bool) → a ⊕ true ≡ not a
+xor-true false = refl
+xor-true true = refl
+
+-- exclusive or of bools, as code has it
+pub differ : (a b : Bool) → not (Bool·beq a b) ≡ a ⊕ b
+differ false false = refl
+differ false true = refl
+differ true false = refl
+differ true true = refl
 
 pub xor-self : (a : Bool) → a ⊕ a ≡ false
 xor-self false = refl

@@ -8,7 +8,7 @@ use native.Mathlib.Omega.{arith}
 use lib.Bits.{bitOr, or-lt, or-shifted}
 use lib.Pow.{mod-pow-add, shl-shr, shr-lt, shr-le, pow-pos}
 use Rattle.bits.specs.Bits.{bit}
-use Rattle.bits.proofs.Laws.{by-bits, bit-shr, bit-low, bit-below, bit-above, bit-number}
+use Rattle.bits.proofs.Laws.{by-bits, number-below, bit-shr, bit-low, bit-below, bit-above, bit-number}
 use Rattle.permutation.specs.Permutation.{rotl}
 
 shift-mod : (w j k : ℕ) → w * 2 ^ k % 2 ^ (j + k) ≡ w % 2 ^ j * 2 ^ k
@@ -58,9 +58,16 @@ unfolding rotl
 rotated-none w k h e =
     by-bits w (λ z. bit w ((z + 64) % 64)) h (λ z l. ap (bit w) (let m : z ≡ (z + 64) % 64 = omega arith in m)) ∙ ap (rotl w) (sym e)
 
+pub rotl-below : (w k : ℕ) → rotl w k < 2 ^ 64
+unfolding rotl
+rotl-below w k = number-below 64 (λ z. bit w ((z + (64 - k)) % 64))
+
+pub bit-rotl : (w k z : ℕ) → z < 64 → bit (rotl w k) z ≡ bit w ((z + (64 - k)) % 64)
+unfolding rotl
+bit-rotl w k z h = bit-number 64 (λ y. bit w ((y + (64 - k)) % 64)) z h
+
 -- as the paper says it: bit z moves to (z + k) mod 64
 pub bit-moves : (w k z : ℕ) → k ≤ 64 → z < 64 → bit (rotl w k) ((z + k) % 64) ≡ bit w z
-unfolding rotl
 bit-moves w k z hk hz =
-    bit-number 64 (λ y. bit w ((y + (64 - k)) % 64)) ((z + k) % 64) (omega arith)
+    bit-rotl w k ((z + k) % 64) (omega arith)
     ∙ ap (bit w) (let e : ((z + k) % 64 + (64 - k)) % 64 ≡ z = omega arith in e)

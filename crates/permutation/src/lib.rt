@@ -116,7 +116,7 @@ fn mu(s: State) -> State
 }
 
 // "The bitwise rotation moves bit at position z into position (z + r_value) modulo 64" (003, 2.5, ρ): w rotated left by k.
-fn rotate(w: u64, k: u32) -> u64
+pub fn rotate(w: u64, k: u32) -> u64
     requires { ⌜ k < wordLength ⌝ }
     ensures { λ r. ⌜ r ≡ rotl w k ⌝ }
 {
