@@ -1,5 +1,6 @@
 pub mod Marked
 pub mod Permutation
+pub mod Generated
 pub mod PaperBits
 pub mod Orders
 pub mod Demand1

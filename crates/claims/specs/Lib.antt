@@ -1,5 +1,6 @@
 pub mod Marked
 pub mod Permutation
+pub mod Generated
 pub mod PaperBits
 pub mod Demand1
 pub mod Demand2

@@ -1,0 +1,4 @@
+pub mod Keccak
+pub mod Words
+pub mod Tables
+pub mod KnownLanes
