@@ -3,9 +3,11 @@
 //! ICEPOLE paper (003), of which README says more. Where the two differ, the
 //! scope paper decides. The proved code is tested against it.
 //!
+//! `generators` makes the tables of constants anew, from FIPS 202 and request N8.
 //! `page` reads docs/FORMAT.md, for the tests that hold that page true.
 
 pub mod burst;
+pub mod generators;
 pub mod page;
 pub mod permutation;
 pub mod random;

@@ -1,9 +1,11 @@
-//! The vectors' text: its form, and its equality with the stored file. The
-//! round that the definitions are held to.
+//! The vectors' text: its form, and its equality with the stored file; the same
+//! equality of the printed constants. The round and the lanes that the
+//! definitions are held to.
 
 use std::fs;
 use std::path::Path;
 
+use reference::generators;
 use reference::permutation::{bits, words, State, STARTING_WORDS, ZERO_STATE};
 use reference::sealing::{open, Variant};
 use reference::vectors::{permutation_vectors, sealing_vectors, vector_state};
@@ -49,8 +51,16 @@ fn sealing_vectors_equal_the_stored_file() {
     check_stored("sealing_vectors", &sealing_vectors());
 }
 
+#[test]
+fn printed_constants_equal_the_stored_file() {
+    check_stored("print_constants", &generators::text());
+}
+
 /// The words of a definition's file, which writes each as 0x and 16 digits.
-fn words_of(text: &str) -> Vec<u64> {
+fn words_of(definition: &str) -> Vec<u64> {
+    let path = Path::new(CRATES).join(definition);
+    let text = fs::read_to_string(&path)
+        .unwrap_or_else(|error| panic!("cannot read {}: {error}", path.display()));
     let word = |digits: &str| u64::from_str_radix(digits.get(..16)?, 16).ok();
     text.split("0x")
         .skip(1)
@@ -62,11 +72,19 @@ fn words_of(text: &str) -> Vec<u64> {
 /// definitions to these numbers, and they are the reference's.
 #[test]
 fn the_worked_round_is_the_references() {
-    let path = Path::new(CRATES).join("permutation/specs/WorkedRound.antt");
-    let text = fs::read_to_string(&path)
-        .unwrap_or_else(|error| panic!("cannot read {}: {error}", path.display()));
     let worked = bits::steps(STARTING_WORDS, 0);
-    assert_eq!(words_of(&text), worked.as_flattened().as_flattened());
+    assert_eq!(
+        words_of("permutation/specs/WorkedRound.antt"),
+        worked.as_flattened().as_flattened()
+    );
+}
+
+/// The lanes of Keccak-f[1600] of the zero state that no starting word is: the
+/// prover computes them too, and holds them to these numbers.
+#[test]
+fn the_other_lanes_are_the_references() {
+    let lanes = generators::bits::keccak_f([0; 25]);
+    assert_eq!(words_of("constants/specs/KnownLanes.antt"), lanes[..5]);
 }
 
 #[test]

@@ -1,0 +1,5 @@
+//! Prints the starting words and the round constants.
+
+fn main() {
+    print!("{}", reference::generators::text());
+}
