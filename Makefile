@@ -13,6 +13,14 @@ test:
 lib:
 	@sh scripts/lib.sh
 
+# Prints the starting words of ICEPOLE in word order, then its round constants, as the proved generators make them.
+.PHONY: tables
+tables:
+	@mkdir -p build
+	@echo "proving the generators, which takes a minute or two the first time" >&2
+	@rt check print_constants >build/tables.log 2>&1 || { cat build/tables.log >&2; exit 1; }
+	@target/bin/print_constants
+
 # Times the proved code against C and OpenSSL, counts its instructions, and writes the figures of docs/BENCHMARKS.md and docs/benchmarks.svg.
 bench:
 	@sh bench/run.sh

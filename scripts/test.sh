@@ -201,6 +201,11 @@ soak() {
     tail -n 1 build/soak.log | grep '^100000 cases, 0 differ$'
 }
 
+# What make tables prints is what the Rust reference wrote.
+tables() {
+    make -s tables >build/tables.out && diff crates/print_constants/stdout build/tables.out
+}
+
 # The demonstration, with the libraries that make lib has built.
 demo() {
     make -s -o lib demo >build/demo.log 2>&1 || { tail -n 30 build/demo.log; return 1; }
@@ -236,6 +241,7 @@ step "no division in the libraries" no_division target/staticlib/libicepole_c.a 
 step "and one that is there is seen" division_seen
 rust_tests tests
 rust_tests tools/burst
+step "make tables" tables
 step "make demo" demo
 step "soak" soak
 echo "$passed passed, $failed failed" | tee build/result
