@@ -228,7 +228,8 @@ fn words_alike(a: State, b: State) -> usize {
 }
 
 // What a misreading would give. Numbered along the second coordinate first,
-// lane 5(x + 1) + y is A[x + 1, y], which is A[y, x + 1] for y = x + 1 alone: four words stay.
+// lane 5(x + 1) + y is A[x + 1, y], which is A[y, x + 1] for y = x + 1 alone:
+// four words stay.
 #[test]
 fn other_numberings_give_other_words() {
     assert_eq!(words_by(|x, y| 5 * (x + 1) + y), starting_words());
