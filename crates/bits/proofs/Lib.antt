@@ -1,3 +1,4 @@
 pub mod Cases
 pub mod Xor
+pub mod Tests
 pub mod Laws

@@ -8,10 +8,9 @@ use lib.Bits.{bitXor}
 use lib.ListN.{length, take, drop, length-drop}
 use lib.Seq.{drop-drop, take-add}
 use Rattle.bytes_le.specs.Bytes.{Bytes, putBytes}
-use Rattle.bytes_le.proofs.Laws.{put-put}
+use Rattle.bytes_le.proofs.Laws.{length-part, put-put}
 use Rattle.blocks.specs.Sealing.{_⊕₈_, xorWith}
 use Rattle.blocks.proofs.Runs.{xor-take, xor-with-run}
-use Rattle.blocks.proofs.Steps.{length-part}
 use Rattle.blocks.proofs.Xor.{length-xor, xor-none, xor-twice}
 
 -- the bytes past those that were xored stay

@@ -1,42 +1,27 @@
 -- Opening gives back what was sealed, and accepts only what sealing gives: for all sizes with a block and a secret number shorter than the state.
 -- Assumes nothing.
 use mathlib.Core.Path.{_≡_, refl, sym, ap, ap₂, _∙_}
-use mathlib.Core.List.{[], _∷_, _++_}
+use mathlib.Core.List.{[], _++_}
 use Prim.Native.Nat.{ℕ, _<_, _+_, _-_, _≤_}
 use mathlib.Core.Bool.{Bool, true, false, cond}
 use native.Mathlib.Omega.{arith}
-use lib.Dec.{eqb, leb}
+use lib.Dec.{leb}
 use lib.ListN.{length, take, drop, length-append, take-append-drop, length-drop}
 use lib.Seq.{length-take-le, take-at, drop-at, drop-drop}
-use borrow.Author.Tests.{eq-eqb, eqb-true, leb-true}
+use borrow.Author.Tests.{leb-true}
 use mathlib.Core.Option.{Option, some, none}
-use Rattle.bytes_le.specs.Bytes.{Bytes}
+use Rattle.bytes_le.specs.Bytes.{Bytes, same}
+use Rattle.bytes_le.proofs.Same.{same-self, same-true}
 use Rattle.state_bytes.proofs.Lengths.{length-permuted}
-use Rattle.blocks.specs.Sealing.{_⊕₈_, absorb, absorbMessage, decrypt, encrypt, expectedTag, keyed, messageOf, messagePart, ready, readyOf, same, sealed}
+use Rattle.blocks.specs.Sealing.{_⊕₈_, absorb, absorbMessage, decrypt, encrypt, expectedTag, keyed, messageOf, messagePart, ready, readyOf, sealed}
 use Rattle.blocks.specs.Sealing.{secretOf, secretPart, tag, tagPart}
 use Rattle.blocks.specs.declared.Sizes.{Sizes}
 use Rattle.blocks.proofs.Blocks.{decrypt-encrypt, encrypt-decrypt, length-associated, length-decrypt, length-encrypt, length-message}
 use Rattle.blocks.proofs.Xor.{length-xor, xor-twice}
 
-same-self : (l : Bytes) → same l l ≡ true
-same-self [] = refl
-same-self (x ∷ xs) = simp (eq-eqb x x refl) (same-self xs)
-
 cond-true : {A : Type 0} (b : Bool) (x : Option A) (y : A) → cond b x none ≡ some y → (b ≡ true) × (x ≡ some y)
 cond-true true x y e = (refl, e)
 cond-true false x y e = let z : _≡_ {A = ℕ} 0 1 = cc in absurd (omega arith)
-
-cond-test : (b c : Bool) → cond b c false ≡ true → (b ≡ true) × (c ≡ true)
-cond-test true c e = (refl, e)
-cond-test false c e = let z : _≡_ {A = ℕ} 0 1 = cc in absurd (omega arith)
-
-pub same-true : (xs ys : Bytes) → same xs ys ≡ true → xs ≡ ys
-same-true [] [] e = refl
-same-true [] (y ∷ ys) e = let z : _≡_ {A = ℕ} 0 1 = cc in absurd (omega arith)
-same-true (x ∷ xs) [] e = let z : _≡_ {A = ℕ} 0 1 = cc in absurd (omega arith)
-same-true (x ∷ xs) (y ∷ ys) e =
-    let p = cond-test (eqb x y) (same xs ys) e in
-    ap₂ (λ (a : ℕ) (l : Bytes). a ∷ l) (eqb-true x y (p .0)) (same-true xs ys (p .1))
 
 -- the secret number and the message, where the tag agrees
 unfoldable pub opened : Sizes → Bytes → Bytes → Bytes → Bytes → Option (Bytes × Bytes)

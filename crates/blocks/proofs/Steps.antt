@@ -6,23 +6,20 @@ use Prim.Native.Nat.{ℕ, zero, suc, _<_, _+_, _-_, _*_, _/_, _%_, _^_, _≤_}
 use mathlib.Core.Bool.{Bool, true, false, cond}
 use native.Mathlib.Omega.{arith}
 use native.Mathlib.Nat.{pow-suc}
-use lib.Bits.{bitXor, bitOr, and-le-r, or-add-and, xor-self, xor-zero-r}
+use lib.Bits.{bitXor, bitOr, xor-zero-r}
 use lib.Dec.{eqb}
-use lib.ListN.{length, take, drop, replicate, length-append, length-drop, length-replicate}
-use lib.Seq.{length-take-le, take-add, drop-drop}
+use lib.ListN.{length, take, drop, replicate, length-append, length-replicate}
+use lib.Seq.{take-add, drop-drop}
 use borrow.Enum.Match.{each-below}
 use borrow.Author.Tests.{eq-eqb, ne-eqb, eqb-true, eqb-false}
-use Rattle.bytes_le.specs.Bytes.{Bytes, le, putBytes}
+use Rattle.bytes_le.specs.Bytes.{Bytes, le, putBytes, same}
 use Rattle.bytes_le.proofs.Laws.{put-put}
 use Rattle.state_bytes.specs.StateBytes.{permuted}
 use Rattle.bits.proofs.Cases.{two}
-use Rattle.blocks.specs.Sealing.{_⊕₈_, absorb, finish, padding, same, xorAt, xorWith}
+use Rattle.bits.proofs.Tests.{or-test, xor-test}
+use Rattle.blocks.specs.Sealing.{_⊕₈_, absorb, finish, padding, xorAt, xorWith}
 use Rattle.blocks.proofs.Runs.{le-xor, xor-with-run}
-use Rattle.blocks.proofs.Xor.{xor-cancel, xor-with-snoc}
-
--- the length of a part
-pub length-part : (d : Bytes) (at j : ℕ) → at + j ≤ length d → length (take j (drop at d)) ≡ j
-length-part d at j h = length-take-le j (drop at d) (rw length-drop (omega arith))
+use Rattle.blocks.proofs.Xor.{xor-with-snoc}
 
 -- nothing is xored in
 pub xor-with-none : (v : Bytes) → v ≡ xorWith v (v ⊕₈ [])
@@ -96,25 +93,6 @@ put-words o o₁ o₂ v at a b h ea eb e₁ e₂ =
     e₂ ∙ ap (λ (l : Bytes). putBytes l (at + 8) (le 8 b)) e₁
     ∙ put-put o at (le 8 a) (le 8 b) (at + 8) refl (omega arith)
     ∙ ap (putBytes o at) (two-words v 0 a b ea eb)
-
-xor-equal : (a b : ℕ) → bitXor a b ≡ 0 → a ≡ b
-xor-equal a b e = sym (xor-zero-r a) ∙ ap (bitXor a) (sym e) ∙ xor-cancel a b
-
-xor-test : (a b : ℕ) → eqb (bitXor a b) 0 ≡ eqb a b
-xor-test a b = by (eqb a b) refl
-  where
-    by : (t : Bool) → eqb a b ≡ t → eqb (bitXor a b) 0 ≡ t
-    by true e = eq-eqb (bitXor a b) 0 (ap (bitXor a) (sym (eqb-true a b e)) ∙ xor-self a)
-    by false e = ne-eqb (bitXor a b) 0 (λ z. eqb-false a b e (xor-equal a b z))
-
-or-none : (a b : ℕ) → bitOr a b ≡ 0 → a ≡ 0
-or-none a b e = omega (arith, or-add-and a b, and-le-r a b)
-
-or-test : (x y : ℕ) → eqb (bitOr x y) 0 ≡ cond (eqb x 0) (eqb y 0) false
-or-test zero y = refl
-or-test (suc x) y =
-    ne-eqb (bitOr (suc x) y) 0 (λ z. let n : suc x ≡ 0 = or-none (suc x) y z in omega arith)
-    ∙ ap (λ (b : Bool). cond b (eqb y 0) false) (sym (ne-eqb (suc x) 0 (λ z. omega arith)))
 
 cond-cond : (s t u w : Bool) → w ≡ cond t u false → cond s w false ≡ cond (cond s t false) u false
 cond-cond true t u w e = e

@@ -5,29 +5,21 @@ use mathlib.Core.List.{[], _++_, append-nil}
 use Prim.Native.Nat.{ℕ, _<_, _+_, _-_, _≤_}
 use native.Mathlib.Omega.{arith}
 use lib.ListN.{length, take, drop, length-drop}
-use lib.Seq.{length-take-le, take-at, drop-at, drop-append-add, drop-drop, take-all, take-append-le, drop-append-le, take-add, take-take}
+use lib.Seq.{length-take-le, take-at, drop-at, drop-append-add, drop-drop, take-all, take-append-le, drop-append-le, take-add}
 use Rattle.bytes_le.specs.Bytes.{Bytes, putBytes}
 use Rattle.permutation.specs.State.{State}
 use Rattle.state_bytes.specs.StateBytes.{bytesOf}
-use Rattle.bytes_le.proofs.Laws.{put-none, put-put}
+use Rattle.bytes_le.proofs.Laws.{length-part, part-part, put-none, put-put}
 use Rattle.state_bytes.proofs.Lengths.{length-bytes}
 use Rattle.blocks.specs.Sealing.{_⊕₈_, absorb, absorbAssociated, absorbMessage, decrypt, encrypt, finish, xorWith}
 use Rattle.blocks.proofs.Blocks.{associated-last, associated-more, checked-last, checked-more, decrypt-last, decrypt-more, encrypt-last, encrypt-more}
 use Rattle.blocks.proofs.Blocks.{length-decrypt, length-encrypt, message-last, message-more}
-use Rattle.blocks.proofs.Steps.{length-part, padded}
+use Rattle.blocks.proofs.Steps.{padded}
 use Rattle.blocks.proofs.Xor.{length-xor}
 
 -- all that is left of d
 pub rest : (d : Bytes) (at k : ℕ) → k ≡ length d - at → take k (drop at d) ≡ drop at d
 rest d at k e = take-all k (drop at d) (rw length-drop (omega arith))
-
--- a part of a part
-part-part : (l : Bytes) (n at r : ℕ) → at + r ≤ n → n ≤ length l → take r (drop at (take n l)) ≡ take r (drop at l)
-part-part l n at r h hl =
-    let e : length (take n l) ≡ n = length-take-le n l hl in
-    sym (drop-at (take at (take n l)) (take r (drop at (take n l))) at (length-take-le at (take n l) (omega arith)))
-    ∙ ap (drop at) (sym (take-add at r (take n l)) ∙ take-take (at + r) n l h ∙ take-add at r l)
-    ∙ drop-at (take at l) (take r (drop at l)) at (length-take-le at l (omega arith))
 
 -- ---- what the loops are over
 -- of a block b of at most r bytes at the state v, x v b is absorbed: the block itself, or what v decrypts it to
@@ -88,7 +80,7 @@ pub part : (c : Bytes) (from n : ℕ) → from + n ≤ length c → Part c (λ (
 part c from n h =
     record {
       long = length-part c from n h;
-      block = λ at k g. ap (take k) (sym (drop-drop at from c)) ∙ sym (part-part (drop from c) n at k g (rw length-drop (omega arith)));
+      block = λ at k g. ap (take k) (sym (drop-drop at from c)) ∙ sym (part-part (drop from c) n at k g);
     }
 
 pub all : {n : ℕ} (d : Bytes) → length d ≡ n → Part d (λ (at : ℕ). at) n d

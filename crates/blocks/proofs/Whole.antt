@@ -7,11 +7,11 @@ use native.Mathlib.Omega.{arith}
 use mathlib.Core.List.{_++_, append-assoc}
 use lib.ListN.{length, take, drop, length-append, length-drop}
 use lib.Seq.{length-take-le, take-all, take-length}
-use Rattle.bytes_le.specs.Bytes.{Bytes, putBytes}
+use Rattle.bytes_le.specs.Bytes.{Bytes, putBytes, same}
 use Rattle.bytes_le.proofs.Laws.{put-put}
 use Rattle.blocks.specs.Bounds.{Bounded}
 use Rattle.blocks.specs.Sealing.{_⊕₈_, absorb, absorbAssociated, absorbMessage, decrypt, encrypt, expectedTag, finish, keyed, messageOf, messagePart}
-use Rattle.blocks.specs.Sealing.{ready, readyOf, same, sealed, secretOf, tag, tagPart, xorWith}
+use Rattle.blocks.specs.Sealing.{ready, readyOf, sealed, secretOf, tag, tagPart, xorWith}
 use Rattle.blocks.specs.declared.Sizes.{Sizes}
 use Rattle.blocks.proofs.Blocks.{length-encrypt}
 use Rattle.blocks.proofs.Opening.{length-keyed, length-ready, length-tag}

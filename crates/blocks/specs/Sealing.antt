@@ -1,10 +1,8 @@
 -- Sealing and opening (003, 2.6 to 2.11; 01, "Sealing and opening"), over the sizes of a variant. The state is its bytes.
 -- Assumes nothing.
-use mathlib.Core.Bool.{Bool, true, false, cond}
 use mathlib.Core.List.{[], _∷_, _++_}
 use Prim.Native.Nat.{ℕ, zero, suc, _+_, _-_, _/_}
 use lib.Bits.{bitXor}
-use lib.Dec.{eqb}
 use lib.ListN.{length, take, drop, replicate, getD, set}
 use Rattle.bytes_le.specs.Bytes.{Bytes}
 use Rattle.state_bytes.specs.StateBytes.{permuted, startBytes}
@@ -102,13 +100,6 @@ sealed q key nonce secret ad m =
     (v ⊕₈ secret) ++ (encrypt (q .block) u m ++ tag (absorbMessage (q .block) u m))
 
 -- ---- opening (003, 2.9)
--- whether two runs of bytes are the same
-abbrev pub same : Bytes → Bytes → Bool
-same [] [] = true
-same [] (y ∷ ys) = false
-same (x ∷ xs) [] = false
-same (x ∷ xs) (y ∷ ys) = cond (eqb x y) (same xs ys) false
-
 -- the three parts of a sealed message c
 abbrev pub secretPart : Sizes → Bytes → Bytes
 secretPart q c = take (q .secret) c

@@ -6,10 +6,10 @@ ghost use mathlib.Core.List.{_++_};
 ghost use Prim.Native.Nat.{_+_, _*_, _^_, _%_, _≤_, _<_};
 ghost use lib.ListN.{length, take, drop};
 ghost use Rattle.bits.specs.Bits.{wordRange};
-ghost use Rattle.bytes_le.specs.Bytes.{le, putBytes};
+ghost use Rattle.bytes_le.specs.Bytes.{le, putBytes, same};
 ghost use Rattle.state_bytes.specs.StateBytes.{stateWords, stateLength, bytesOf};
 ghost use Rattle.blocks.specs.Lengths.{tagLength, maxKey, maxNonce, maxLength};
-ghost use Rattle.blocks.specs.Sealing.{_⊕₈_, xorWith, same, keyed, finish, absorbAssociated, absorbMessage, encrypt, decrypt};
+ghost use Rattle.blocks.specs.Sealing.{_⊕₈_, xorWith, keyed, finish, absorbAssociated, absorbMessage, encrypt, decrypt};
 ghost use Rattle.blocks.specs.Sealing.{ready, sealed, secretOf, readyOf, expectedTag, tag, messagePart, tagPart};
 ghost use Rattle.blocks.specs.Bounds.{Bounded};
 

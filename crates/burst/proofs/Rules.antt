@@ -1,6 +1,6 @@
 -- The rules of the index as facts: each of them holds where the whole test does, and together they make it.
 -- Assumes nothing.
-use mathlib.Core.Bool.{Bool, true, false, not, _&&_}
+use mathlib.Core.Bool.{Bool, true, false, not}
 use mathlib.Core.List.{List, [], _∷_}
 use mathlib.Core.Path.{_≡_, refl, sym, ap, _∙_}
 use Prim.Native.Nat.{ℕ, suc, _+_, _*_, _≤_, _<_}
@@ -10,6 +10,7 @@ use borrow.Author.Tests.{le-leb, eq-eqb, lt-ltb, leb-true, ltb-true, eqb-true}
 use lib.Dec.{eqb, leb, ltb}
 use lib.ListN.{length, take, drop, getD, length-take, drop-of-length-le}
 use lib.Seq.{slice-cons}
+use Rattle.bits.proofs.Cases.{and-true}
 use Rattle.burst.specs.declared.Entry.{Entry}
 use Rattle.burst.specs.declared.Recorder.{Recorder}
 use Rattle.burst.specs.declared.Edition.{Edition}
@@ -17,10 +18,6 @@ use Rattle.burst.specs.Layout.{maxPicture}
 use Rattle.burst.specs.Numbers.{usedAfter}
 use Rattle.burst.specs.Index.{entryRules, indexRules}
 use Rattle.burst.specs.Recorder.{isSound}
-
-pub and-true : (a b : Bool) → (a && b) ≡ true → (a ≡ true) × (b ≡ true)
-and-true true b h = (refl, h)
-and-true false b h = (h, cc)
 
 -- a test that cannot hold
 pub refuted : (b : Bool) → (b ≡ true → ⊥) → false ≡ b

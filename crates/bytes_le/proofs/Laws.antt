@@ -6,7 +6,7 @@ use Prim.Native.Nat.{ℕ, zero, suc, _+_, _-_, _/_, _≤_, _<_}
 use native.Mathlib.Omega.{arith}
 use native.Mathlib.Nat.{add-assoc, zero-add}
 use lib.ListN.{length, take, drop, length-append, length-drop, take-append-drop, set, drop-of-length-le}
-use lib.Seq.{length-take-le, take-append-le, drop-append-le, drop-append-add, drop-drop, take-at, drop-at, sets, sets-eq, set-at, drop-cons}
+use lib.Seq.{length-take-le, take-append-le, drop-append-le, drop-append-add, drop-drop, take-take, take-at, drop-at, sets, sets-eq, set-at, drop-cons}
 use Rattle.bytes_le.specs.Bytes.{Bytes, le, putBytes, unle}
 
 pub length-le : (n x : ℕ) → length (le n x) ≡ n
@@ -127,3 +127,16 @@ put-last a b i vs e f =
     let z : drop (i + length vs) (a ++ b) ≡ [] = drop-of-length-le (a ++ b) {i = i + length vs} (rw length-append (omega arith)) in
     ap₂ (λ (x y : Bytes). x ++ (vs ++ y)) (take-at a b i e) z
     ∙ ap (λ (l : Bytes). a ++ l) (append-nil vs)
+
+-- ---- parts
+-- the length of a part
+pub length-part : (d : Bytes) (at j : ℕ) → at + j ≤ length d → length (take j (drop at d)) ≡ j
+length-part d at j h = length-take-le j (drop at d) (rw length-drop (omega arith))
+
+-- a part of a part
+pub part-part : (l : Bytes) (n at r : ℕ) → at + r ≤ n → take r (drop at (take n l)) ≡ take r (drop at l)
+part-part l n zero r h = take-take r n l (omega arith)
+part-part [] zero (suc at) r h = refl
+part-part [] (suc n) (suc at) r h = refl
+part-part (x ∷ l) zero (suc at) r h = absurd (omega arith)
+part-part (x ∷ l) (suc n) (suc at) r h = part-part l n at r (omega arith)

@@ -1,7 +1,9 @@
 -- Bytes in a buffer, and numbers as little-endian bytes (01: "All multi-byte numbers are little-endian").
 -- Assumes nothing.
+use mathlib.Core.Bool.{Bool, true, false, cond}
 use mathlib.Core.List.{List, [], _∷_, _++_}
 use Prim.Native.Nat.{ℕ, zero, suc, _+_, _*_, _/_, _%_, _<_}
+use lib.Dec.{eqb}
 use lib.ListN.{length, take, drop}
 
 -- runs of bytes, as numbers; where it matters that they are below 256, `AllBytes` says so
@@ -12,6 +14,13 @@ Bytes = List ℕ
 abbrev pub AllBytes : Bytes → Type 0
 AllBytes [] = Unit {0}
 AllBytes (b ∷ bs) = (b < 256) × AllBytes bs
+
+-- whether two runs of bytes, or of other numbers, are the same
+abbrev pub same : Bytes → Bytes → Bool
+same [] [] = true
+same [] (y ∷ ys) = false
+same (x ∷ xs) [] = false
+same (x ∷ xs) (y ∷ ys) = cond (eqb x y) (same xs ys) false
 
 -- b with vs instead of what stood from index i on
 unfoldable pub putBytes : Bytes → ℕ → Bytes → Bytes

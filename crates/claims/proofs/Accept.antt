@@ -4,15 +4,16 @@ use mathlib.Core.Bool.{Bool, true, false, cond}
 use mathlib.Core.List.{List, [], _∷_, _++_, append-assoc, append-nil}
 use mathlib.Core.Logic.{⊎-elim}
 use mathlib.Core.Path.{_≡_, refl, sym, ap, ap₂, subst, _∙_}
-use Prim.Native.Nat.{ℕ, zero, suc, _+_, _-_, _*_, _/_, _%_, _^_, _≤_, _<_}
+use Prim.Native.Nat.{ℕ, zero, suc, _+_, _-_, _*_, _≤_, _<_}
 use native.Mathlib.Omega.{arith}
-use native.Mathlib.Nat.{pow-suc, eq-or-lt-of-le}
+use native.Mathlib.Nat.{eq-or-lt-of-le}
 use borrow.Author.Tests.{eqb-true, eqb-false}
 use lib.Dec.{eqb}
 use lib.ListN.{length, take, drop, replicate, length-append, length-drop, take-append-drop}
 use lib.Seq.{drop-drop, take-take, take-add, length-take-le, take-all}
-use Rattle.bytes_le.specs.Bytes.{Bytes, AllBytes, le, unle, leAt}
-use Rattle.bytes_le.proofs.All.{all-take, all-drop}
+use Rattle.bytes_le.specs.Bytes.{Bytes, AllBytes, le, leAt}
+use Rattle.bytes_le.proofs.Laws.{length-part}
+use Rattle.bytes_le.proofs.All.{all-take, all-drop, le-at, leAt-less}
 use Rattle.burst.specs.declared.Edition.{Edition}
 use Rattle.burst.specs.declared.Name.{Name}
 use Rattle.burst.specs.Fields.{fieldsLength}
@@ -23,7 +24,8 @@ use Rattle.burst.specs.Index.{indexRules}
 use Rattle.trace.specs.Plain.{Firing, kept, gap, pictures, gaps, usedBy, records, index, Plain, headerOf, indexOf, fileOf, byValue, Call, keepShot}
 use Rattle.trace.specs.Plain.{dropShot, closeBurst, CallList, numberOf, accepted, afterCall, afterCalls, begun, plainOf, beginNumberOf}
 use Rattle.burst.proofs.Rows.{numbered-among}
-use Rattle.burst.proofs.Rules.{and-true, index-used}
+use Rattle.bits.proofs.Cases.{and-true}
+use Rattle.burst.proofs.Rules.{index-used}
 use Rattle.burst.proofs.Numbers.{keep-0, drop-0, close-0, begin-0}
 use Rattle.burst.proofs.Parts.{part-sealed, length-mark, length-body, mark-bytes, body-bytes}
 use Rattle.reader.specs.declared.Checked.{Checked}
@@ -39,48 +41,17 @@ use Rattle.claims.specs.Demand3.{sliceBound, Slice, TypedCalls, Genuine,
 use Rattle.claims.proofs.Lists.{fine}
 use Rattle.claims.proofs.Back.{gives-back}
 
--- ---- bytes and their numbers
-le-unle : (bs : Bytes) → AllBytes bs → le (length bs) (unle bs) ≡ bs
-le-unle [] b = refl
-le-unle (x ∷ xs) b =
-    let h = b .0 in
-    let e₁ : (x + 256 * unle xs) % 256 ≡ x = omega arith in
-    let e₂ : (x + 256 * unle xs) / 256 ≡ unle xs = omega arith in
-    let t = le-unle xs (b .1) in
-    rw (e₁, e₂, t)
-
-unle-less : (bs : Bytes) → AllBytes bs → unle bs < 256 ^ length bs
-unle-less [] b = omega arith
-unle-less (x ∷ xs) b =
-    let h = b .0 in
-    let t = unle-less xs (b .1) in
-    let e = pow-suc 256 (length xs) in
-    rw e (omega arith)
-
+-- ---- the parts of a file
 module _ (f : Bytes) (fb : AllBytes f) where
-  part-length : (n at : ℕ) → at + n ≤ length f → length (take n (drop at f)) ≡ n
-  part-length n at h =
-      let d : length (drop at f) ≡ length f - at = length-drop at f in
-      length-take-le n (drop at f) (omega arith)
-
-  le-at : (n at : ℕ) → at + n ≤ length f → le n (leAt n f at) ≡ take n (drop at f)
-  unfolding leAt
-  le-at n at h =
-      ap (λ (k : ℕ). le k (unle (take n (drop at f)))) (sym (part-length n at h)) ∙ le-unle (take n (drop at f)) (all-take n (drop at f) (all-drop at f fb))
-
-  less-at : (n at : ℕ) → at + n ≤ length f → leAt n f at < 256 ^ n
-  unfolding leAt
-  less-at n at h = rw (part-length n at h) at (unle-less (take n (drop at f)) (all-take n (drop at f) (all-drop at f fb)))
-
   -- an entry's twelve bytes
   entry-bytes : (pos n at len : ℕ) → pos + 12 ≤ length f → leAt 2 f pos ≡ n → leAt 2 f (pos + 2) ≡ 0 → leAt 4 f (pos + 4) ≡ at → leAt 4 f (pos + 8) ≡ len
       → entryBytes n 0 at len ≡ take 12 (drop pos f)
   unfolding entryBytes
   entry-bytes pos n at len h e₁ e₂ e₃ e₄ =
-      let g₁ : le 2 n ≡ take 2 (drop pos f) = ap (le 2) (sym e₁) ∙ le-at 2 pos (omega arith) in
-      let g₂ : le 2 0 ≡ take 2 (drop 2 (drop pos f)) = ap (le 2) (sym e₂) ∙ le-at 2 (pos + 2) (omega arith) ∙ ap (take 2) (sym (drop-drop 2 pos f)) in
-      let g₃ : le 4 at ≡ take 4 (drop 4 (drop pos f)) = ap (le 4) (sym e₃) ∙ le-at 4 (pos + 4) (omega arith) ∙ ap (take 4) (sym (drop-drop 4 pos f)) in
-      let g₄ : le 4 len ≡ take 4 (drop 8 (drop pos f)) = ap (le 4) (sym e₄) ∙ le-at 4 (pos + 8) (omega arith) ∙ ap (take 4) (sym (drop-drop 8 pos f)) in
+      let g₁ : le 2 n ≡ take 2 (drop pos f) = ap (le 2) (sym e₁) ∙ le-at f fb 2 pos (omega arith) in
+      let g₂ : le 2 0 ≡ take 2 (drop 2 (drop pos f)) = ap (le 2) (sym e₂) ∙ le-at f fb 2 (pos + 2) (omega arith) ∙ ap (take 2) (sym (drop-drop 2 pos f)) in
+      let g₃ : le 4 at ≡ take 4 (drop 4 (drop pos f)) = ap (le 4) (sym e₃) ∙ le-at f fb 4 (pos + 4) (omega arith) ∙ ap (take 4) (sym (drop-drop 4 pos f)) in
+      let g₄ : le 4 len ≡ take 4 (drop 8 (drop pos f)) = ap (le 4) (sym e₄) ∙ le-at f fb 4 (pos + 8) (omega arith) ∙ ap (take 4) (sym (drop-drop 8 pos f)) in
       let d = drop pos f in
       let t₁ : take 12 d ≡ take 2 d ++ take 10 (drop 2 d) = take-add 2 10 d in
       let t₂ : take 10 (drop 2 d) ≡ take 2 (drop 2 d) ++ take 8 (drop 4 d) = take-add 2 8 (drop 2 d) ∙ ap (λ (r : Bytes). take 2 (drop 2 d) ++ take 8 r) (drop-drop 2 2 d) in
@@ -160,7 +131,7 @@ module _ (key f : Bytes) (fb : AllBytes f) (taken end : ℕ) (he : end ≤ lengt
       let s = partMark e key name (shotAt pos) ad c in
       let p = partBody e key name (shotAt pos) ad c in
       let eb : entryBytes n 0 at len ≡ ad = entry-bytes f fb pos n at len hp e₁ e₂ e₃ refl in
-      let lc : length c ≡ len + 32 = part-length f fb (len + 32) (entryAt f pos .offset) (omega arith) in
+      let lc : length c ≡ len + 32 = length-part f (entryAt f pos .offset) (len + 32) (omega arith) in
       let cb : AllBytes c = all-take (len + 32) (drop (entryAt f pos .offset) f) (all-drop (entryAt f pos .offset) f fb) in
       let lp : length p ≡ len = length-body e key name (shotAt pos) ad c (omega arith) ∙ (let z : length c - sealLength ≡ len = omega arith in z) in
       record {
@@ -465,7 +436,7 @@ module _ (key f : Bytes) (kb : AllBytes key) (fb : AllBytes f) (ok : Accepted ke
       cc (e₁, e₂, e₃, cl, d₁, d₂, d₃)
 
   short : length f < sliceBound
-  short = let kn = fr .known in let s = fr .size in let a = fr .least in let u = less-at f fb 4 28 (omega arith) in omega arith
+  short = let kn = fr .known in let s = fr .size in let a = fr .least in let u = leAt-less f fb 4 28 in omega arith
 
   pub file-of : Genuine key f
   file-of = record {
@@ -473,7 +444,7 @@ module _ (key f : Bytes) (kb : AllBytes key) (fb : AllBytes f) (ok : Accepted ke
     list = l;
     filed = record {
       listed = numbered-among _;
-      named = less-at f fb 8 8 (let kn = fr .known in let a = fr .least in omega arith);
+      named = leAt-less f fb 8 8;
       reached = record { begun = begins-0; closed = ap (λ (x : Plain). x .closed) plain-is };
     };
     typed = record {

@@ -8,11 +8,11 @@ use native.Mathlib.Omega.{arith}
 use borrow.Author.Tests.{le-leb, ne-eqb}
 use lib.ListN.{length, take, replicate}
 use mathlib.Core.List.{[], _++_}
-use Rattle.bytes_le.specs.Bytes.{Bytes, le, putBytes}
+use Rattle.bytes_le.specs.Bytes.{Bytes, le, putBytes, same}
 use Rattle.bytes_le.proofs.Laws.{take-put}
 use Rattle.icepole.specs.Answers.{fitsOutput, openAnswer, openLength, openNumber, openOutput, openRefusal, openedAnswer, sealAnswer, sealOutput, sealRefusal, tagAgrees, unless}
 use Rattle.blocks.specs.Bounds.{Bounded}
-use Rattle.blocks.specs.Sealing.{expectedTag, messageOf, same, sealed, secretOf, tagPart}
+use Rattle.blocks.specs.Sealing.{expectedTag, messageOf, sealed, secretOf, tagPart}
 use Rattle.icepole.specs.Variants.{sizes}
 use Rattle.icepole.specs.declared.Variant.{Variant}
 use Rattle.icepole.specs.declared.Opened.{Opened}

@@ -15,7 +15,7 @@ use Rattle.burst.specs.Index.{entryRules, indexRules}
 use Rattle.reader.specs.Front.{entriesAt, restRules, frontRulesOf, frontRules}
 use Rattle.reader.specs.Reader.{checkRefusal, recordRefusal, fetchRefusal}
 use Rattle.strips.specs.Answers.{startNumber, stripNumber, endNumber}
-use Rattle.listing.specs.Text.{decimal}
+use Rattle.plain_text.specs.Text.{decimal}
 use Rattle.listing.specs.Listing.{frontLines, headLines, listing, shotLine, shotLines}
 use Rattle.claims.specs.Marked.{MarkedHold}
 

@@ -20,6 +20,7 @@ use Rattle.state_bytes.specs.StateBytes.{Shape, bytesOf, column, stateOf, wordO
 use Rattle.bits.proofs.Cases.{two}
 use Rattle.bits.proofs.Laws.{bit-low, bit-shr, bit-xor}
 use Rattle.bytes_le.proofs.All.{all-take, all-drop}
+use Rattle.permutation.proofs.Tabulate.{getD-tabulate}
 use Rattle.state_bytes.proofs.Words.{bytes-word}
 use Rattle.claims.specs.PaperBits.{PaperBits, bitOf}
 
@@ -80,11 +81,6 @@ state-bit S w z hw hz =
     ∙ ap (λ (l : Bytes). getD l (z / 8) 0) (bytes-word (state S) (formed S) w hw))
     ∙ bit-of 8 (wordOf (state S) w) (z / 8) (z % 8) (omega arith) (omega arith)
     ∙ ap (bit (wordOf (state S) w)) ez
-
-getD-tabulate : {A : Type 0} (n : ℕ) (f : ℕ → A) (i : ℕ) (d : A) → i < n → getD (tabulate n f) i d ≡ f i
-getD-tabulate zero f i d h = absurd (not-suc-le-zero h)
-getD-tabulate (suc n) f zero d h = refl
-getD-tabulate (suc n) f (suc i) d h = getD-tabulate n (λ k. f (suc k)) i d (le-of-suc-le-suc h)
 
 paper-bit : (S : ℕ → ℕ → ℕ) (x y z : ℕ) → x < 4 → y < 5 → z < 64 → bitOf (bytesOf (state S)) (64 * (x + 4 * y) + z) ≡ bit (S x y) z
 paper-bit S x y z hx hy hz =

@@ -23,7 +23,7 @@ use Rattle.burst.specs.Numbers.{beginNumber, keepNumber, dropNumber, closeNumbe
 use Rattle.trace.specs.Plain.{pictures, Plain, byValue, inPlace, keepShot, dropShot, closeBurst, CallList, Answer, usedOf, totalOf, headerOf, indexOf, plainOf, plainAnswers}
 use Rattle.reader.specs.Reader.{checkRefusal, recordRefusal, fetchRefusal}
 use Rattle.strips.specs.Answers.{startNumber, stripNumber, endNumber}
-use Rattle.listing.specs.Text.{ascii}
+use Rattle.plain_text.specs.Text.{ascii}
 use Rattle.listing.specs.Listing.{listing}
 
 -- the state with S[x][y] = w and zeros elsewhere

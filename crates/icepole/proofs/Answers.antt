@@ -8,12 +8,12 @@ use native.Mathlib.Omega.{arith}
 use borrow.Author.Tests.{ne-eqb}
 use lib.Dec.{leb}
 use lib.ListN.{length, replicate, take, drop, length-append}
-use Rattle.bytes_le.specs.Bytes.{Bytes, putBytes}
+use Rattle.bytes_le.specs.Bytes.{Bytes, putBytes, same}
 use Rattle.bytes_le.proofs.Loads.{fits}
 use Rattle.icepole.specs.Answers.{fitsOutput, openAnswer, openLength, openNumber, openOutput, openRefusal, openedAnswer, tagAgrees}
 use Rattle.icepole.specs.Answers.{sealAnswer, sealNumber, sealOutput, sealRefusal, sealedAnswer}
 use Rattle.blocks.specs.Bounds.{Bounded}
-use Rattle.blocks.specs.Sealing.{decrypt, expectedTag, messageOf, readyOf, same, sealed, secretOf, tagPart}
+use Rattle.blocks.specs.Sealing.{decrypt, expectedTag, messageOf, readyOf, sealed, secretOf, tagPart}
 use Rattle.icepole.specs.Variants.{sizes}
 use Rattle.icepole.specs.declared.Opened.{Opened}
 use Rattle.blocks.specs.declared.Sizes.{Sizes}

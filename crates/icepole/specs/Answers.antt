@@ -5,10 +5,10 @@ use mathlib.Core.List.{List, [], _∷_}
 use Prim.Native.Nat.{ℕ, _+_, _-_}
 use lib.Dec.{eqb, leb, ltb}
 use lib.ListN.{length, replicate}
-use Rattle.bytes_le.specs.Bytes.{Bytes, putBytes}
+use Rattle.bytes_le.specs.Bytes.{Bytes, putBytes, same}
 use Rattle.blocks.specs.declared.Sizes.{Sizes}
 use Rattle.blocks.specs.Lengths.{tagLength, maxSecret, maxLength}
-use Rattle.blocks.specs.Sealing.{same, sealed, secretOf, messageOf, expectedTag, tagPart}
+use Rattle.blocks.specs.Sealing.{sealed, secretOf, messageOf, expectedTag, tagPart}
 use Rattle.icepole.specs.declared.Variant.{Variant}
 use Rattle.icepole.specs.declared.Sealed.{Sealed}
 use Rattle.icepole.specs.declared.Opened.{Opened}

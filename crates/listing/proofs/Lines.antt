@@ -17,9 +17,9 @@ use Rattle.reader.specs.declared.Header.{Header}
 use Rattle.reader.specs.Front.{burstNumberIn, droppedIn, entriesAt, entryAt, frontRules, headerIn, indexOffsetIn, keptIn, takenIn}
 use Rattle.reader.proofs.Rules.{front}
 use Rattle.listing.specs.declared.Listed.{Listed}
-use Rattle.listing.specs.Text.{ascii}
-use Rattle.listing.specs.Listing.{textRoom, field, frontLines, headLines, listAnswer, listRefusal, listOutput, listing, shotLine, shotLines, maxListed}
-use Rattle.listing.proofs.Puts.{Put, field-length, put-then}
+use Rattle.plain_text.specs.Text.{ascii, field}
+use Rattle.listing.specs.Listing.{textRoom, frontLines, headLines, listAnswer, listRefusal, listOutput, listing, shotLine, shotLines, maxListed}
+use Rattle.plain_text.proofs.Puts.{Put, field-length, put-then}
 
 -- ---- lengths
 pub head-length : (b t k d : ℕ) → length (headLines b t k d) ≤ 109

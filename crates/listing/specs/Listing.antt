@@ -11,17 +11,13 @@ use Rattle.burst.specs.declared.Entry.{Entry}
 use Rattle.burst.specs.Editions.{maxEntries}
 use Rattle.reader.specs.Front.{takenIn, keptIn, droppedIn, burstNumberIn, indexOffsetIn, entriesAt, frontRules}
 use Rattle.listing.specs.declared.Listed.{Listed}
-use Rattle.listing.specs.Text.{ascii, decimal}
+use Rattle.plain_text.specs.Text.{ascii, field}
 
 -- the longest file that is listed
 abbrev pub maxListed : ℕ
 maxListed = 65536
 
 -- ---- the lines
--- a word and a number
-abbrev pub field : Bytes → ℕ → Bytes
-field word n = word ++ decimal n
-
 -- burst and counts
 unfoldable pub headLines : (burstNumber taken kept dropped : ℕ) → Bytes
 headLines burstNumber taken kept dropped =

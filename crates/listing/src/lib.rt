@@ -5,22 +5,18 @@ use burst::Place;
 use icepole::OUTPUT_TOO_SHORT;
 ghost use mathlib.Core.Path.{_≡_};
 ghost use Prim.Native.Nat.{_+_, _*_, _≤_};
-ghost use lib.ListN.{length, drop};
+ghost use lib.ListN.{length};
 ghost use Rattle.bytes_le.specs.Bytes.{putBytes};
 ghost use Rattle.burst.specs.Fields.{entryLength};
 ghost use Rattle.burst.specs.Editions.{maxEntries};
 ghost use Rattle.reader.specs.Front.{entriesAt};
-ghost use Rattle.listing.specs.Text.{decimal, maxDigits};
-ghost use Rattle.listing.specs.Listing.{field, headLines, shotLine, shotLines, listing, textRoom, listAnswer, listOutput};
+ghost use Rattle.listing.specs.Listing.{headLines, shotLine, shotLines, listing, textRoom, listAnswer, listOutput};
 
 // The longest file that is listed.
 pub const MAX_LISTED: usize = 65536;
 
 // Every text has room in so many bytes: 80 for each shot of the longest burst.
 pub const TEXT_ROOM: usize = 80 * MAX_ENTRIES;
-
-// Digits of the largest number.
-const MAX_DIGITS: usize = 20;
 
 // What a listing answers: a refusal number with its mark, or the text's length.
 pub struct Listed {
@@ -29,52 +25,15 @@ pub struct Listed {
     pub length: usize,
 }
 
-// Decimal digits: those from `start` on.
-struct Digits {
-    bytes: [u8; MAX_DIGITS],
-    start: usize,
-}
-
-// The digits of a number, from the last to the first.
-fn digits_of(n: u64) -> Digits
-    ensures { λ r. ⌜ (drop (r .start) (r .bytes) ≡ decimal n) × (r .start ≤ maxDigits) × (length (r .bytes) ≡ maxDigits) ⌝ }
-{
-    let mut bytes = [0u8; MAX_DIGITS];
-    let mut i = MAX_DIGITS;
-    let mut rest = n;
-    while 0 < i {
-        i = i - 1;
-        if rest < 10 {
-            bytes[i] = 48 + rest as u8;
-            return Digits { bytes, start: i };
-        }
-        bytes[i] = 48 + (rest % 10) as u8;
-        rest = rest / 10;
-    }
-    Digits { bytes, start: 0 }
-}
-
-// Puts a word and a number into out from index at on; returns the index behind them.
-fn put_field(out: &mut [u8], at: usize, word: &[u8], n: u64) -> usize
-    requires { ⌜ at + (length (now word) + maxDigits) ≤ length (now out) ⌝ }
-    ensures { λ r. ⌜ (r ≡ at + length (field (now (word .entry)) n)) × (now (out .exit) ≡ putBytes (now (out .entry)) at (field (now (word .entry)) n)) ⌝ }
-{
-    let i = bytes_le::put_bytes(out, at, word);
-    let d = digits_of(n);
-    let bytes = d.bytes;
-    let start = d.start;
-    bytes_le::put_bytes(out, i, &bytes[start..MAX_DIGITS])
-}
-
 // The lines of burst and counts, at the front of out.
 fn put_head(out: &mut [u8], burst_number: u64, taken: u64, kept: u64, dropped: u64) -> usize
     requires { ⌜ 109 ≤ length (now out) ⌝ }
     ensures { λ r. ⌜ (r ≡ length (headLines «burst_number» taken kept dropped)) × (now (out .exit) ≡ putBytes (now (out .entry)) 0 (headLines «burst_number» taken kept dropped)) ⌝ }
 {
-    let i = put_field(out, 0, b"burst ", burst_number);
-    let j = put_field(out, i, b"\ntaken ", taken);
-    let k = put_field(out, j, b" kept ", kept);
-    let l = put_field(out, k, b" dropped ", dropped);
+    let i = plain_text::put_field(out, 0, b"burst ", burst_number);
+    let j = plain_text::put_field(out, i, b"\ntaken ", taken);
+    let k = plain_text::put_field(out, j, b" kept ", kept);
+    let l = plain_text::put_field(out, k, b" dropped ", dropped);
     bytes_le::put_bytes(out, l, b"\n")
 }
 
@@ -83,9 +42,9 @@ fn put_shot(out: &mut [u8], at: usize, shot: u64, offset: u64, count: u64) -> us
     requires { ⌜ at + 78 ≤ length (now out) ⌝ }
     ensures { λ r. ⌜ (r ≡ at + length (shotLine shot offset count)) × (now (out .exit) ≡ putBytes (now (out .entry)) at (shotLine shot offset count)) ⌝ }
 {
-    let i = put_field(out, at, b"shot ", shot);
-    let j = put_field(out, i, b" at ", offset);
-    let k = put_field(out, j, b" length ", count);
+    let i = plain_text::put_field(out, at, b"shot ", shot);
+    let j = plain_text::put_field(out, i, b" at ", offset);
+    let k = plain_text::put_field(out, j, b" length ", count);
     bytes_le::put_bytes(out, k, b"\n")
 }
 

@@ -1,5 +1,6 @@
 pub mod Bounds
 pub mod Columns
+pub mod Tabulate
 pub mod Matrix
 pub mod Rotation
 pub mod SBox

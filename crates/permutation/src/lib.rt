@@ -4,7 +4,7 @@ ghost use mathlib.Core.Path.{_≡_};
 ghost use Prim.Native.Nat.{_≤_, _<_};
 ghost use lib.ListN.{getD};
 ghost use Rattle.bits.specs.Bits.{wordLength};
-ghost use Rattle.permutation.specs.Permutation.{μ, ρ, π, ψ, κ, P, constants, rotl, start};
+ghost use Rattle.permutation.specs.Permutation.{μ, ρ, π, ψ, κ, R, P, constants, rotl, start};
 ghost use Rattle.permutation.specs.Words.{twiceWords, times18Words, sumWords, rotlColumn, sboxWords};
 ghost use Rattle.permutation.specs.Steps.{stepsOf};
 
@@ -227,8 +227,8 @@ fn round(s: State, constant: &[u64; 12], number: usize) -> [State; 5]
     [after_mu, after_rho, after_pi, after_psi, after_kappa]
 }
 
-// "P is an iterated permutation and a number of rounds is a parameter of the permutation" (003, 2.5): the first n rounds, in place. The table is copied once, and
-// round has one call site, for speed.
+// "P is an iterated permutation and a number of rounds is a parameter of the permutation" (003, 2.5): the first n rounds, in place. The table is copied once. In
+// the cipher's libraries this is the only call of round, for speed: round_at, below, is in none of them.
 fn rounds(s: &mut State, n: usize)
     requires { ⌜ n ≤ 12 ⌝ }
     ensures { λ _. ⌜ now (s .exit) ≡ P n (now (s .entry)) ⌝ }
@@ -273,6 +273,22 @@ pub fn p12(s: State) -> State
     let mut t = s;
     permute12(&mut t);
     t
+}
+
+// One round by itself (003, 2.5), for crates of ours that look at the states between rounds. The table is handed in, so that a loop copies it once.
+pub fn round_at(s: State, constant: &[u64; 12], number: usize) -> State
+    requires { ⌜ (number < 12) × (now constant ≡ constants) ⌝ }
+    ensures { λ r. ⌜ r ≡ R s number ⌝ }
+{
+    let states = round(s, constant, number);
+    states[AFTER_KAPPA]
+}
+
+// The table that round_at wants.
+pub fn constant_table() -> [u64; 12]
+    ensures { λ r. ⌜ r ≡ constants ⌝ }
+{
+    CONSTANTS
 }
 
 // "First, the state is initialized with the 1280-bit pseudorandom constant" (003, 2.6): the state before key and nonce.

@@ -18,7 +18,8 @@ use Rattle.burst.specs.Layout.{maxPicture}
 use Rattle.burst.specs.Numbers.{usedAfter, totalFrom}
 use Rattle.burst.specs.Index.{indexRules}
 use Rattle.burst.proofs.Rows.{numbered-known}
-use Rattle.burst.proofs.Rules.{and-true, Obeys, index-end, index-obeys, index-used}
+use Rattle.bits.proofs.Cases.{and-true}
+use Rattle.burst.proofs.Rules.{Obeys, index-end, index-obeys, index-used}
 use Rattle.reader.specs.declared.Header.{Header}
 use Rattle.reader.specs.Front.{headerIn, editionNumberIn, takenIn, keptIn, droppedIn, pictureOffsetIn, indexOffsetIn, closingOffsetIn}
 use Rattle.reader.specs.Front.{totalIn, entryAt, entriesAt, editionIn, allZero, restRules, frontRulesOf, frontRules}

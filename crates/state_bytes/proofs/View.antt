@@ -1,9 +1,10 @@
 -- Nothing is lost or moved on the way from a state to its bytes and back, so that rounds on words are rounds on bytes.
 -- Assumes nothing.
-use mathlib.Core.Path.{_≡_, refl, sym, ap, _∙_}
-use mathlib.Core.List.{List, [], _∷_}
-use Prim.Native.Nat.{ℕ, zero, suc, _<_}
-use lib.ListN.{getD, length}
+use mathlib.Core.Path.{_≡_, refl, sym, ap, ap₂, _∙_}
+use mathlib.Core.List.{List, [], _∷_, _++_}
+use Prim.Native.Nat.{ℕ, zero, suc, _+_, _*_, _/_, _%_, _≤_, _<_}
+use lib.ListN.{getD, length, take}
+use lib.Seq.{take-add, take-all}
 use mir.Syntax.{w64}
 use mir.Val.{Val}
 use denote.Array.{Array, each}
@@ -13,11 +14,13 @@ use denote.Shadow.{shadow}
 use native.Mathlib.Nat.{not-suc-le-zero, le-of-suc-le-suc}
 use native.Mathlib.Omega.{arith}
 use Rattle.permutation.specs.Permutation.{P}
+use Rattle.permutation.proofs.Tabulate.{getD-tabulate, tabulated}
 use Rattle.permutation.specs.State.{State, at, state, tabulate}
+use Rattle.bytes_le.proofs.All.{le-at, leAt-less}
 use Rattle.bytes_le.proofs.Laws.{unle-8}
 use Rattle.bits.specs.Bits.{wordRange}
-use Rattle.bytes_le.specs.Bytes.{leAt}
-use Rattle.state_bytes.specs.StateBytes.{Shape, bytesOf, column, permuted, stateOf}
+use Rattle.bytes_le.specs.Bytes.{Bytes, AllBytes, le, leAt}
+use Rattle.state_bytes.specs.StateBytes.{Shape, bytesBelow, bytesOf, column, permuted, stateLength, stateOf, stateWords, wordOf}
 
 pub there-and-back : (f : ℕ → ℕ → ℕ) → ((x y : ℕ) → f x y < wordRange) → stateOf (bytesOf (state f)) ≡ state f
 unfolding stateOf bytesOf column leAt
@@ -29,35 +32,51 @@ there-and-back f h i =
     ∷ []
 
 -- ---- a state that the program holds, and its bytes: there and back
-column-is : (r : List ℕ) → length r ≡ 5 → r ≡ tabulate 5 (λ y. getD r y 0)
-column-is [] h = absurd (omega arith)
-column-is (a ∷ []) h = absurd (omega arith)
-column-is (a ∷ b ∷ []) h = absurd (omega arith)
-column-is (a ∷ b ∷ c ∷ []) h = absurd (omega arith)
-column-is (a ∷ b ∷ c ∷ d ∷ []) h = absurd (omega arith)
-column-is (a ∷ b ∷ c ∷ d ∷ e ∷ []) h = refl
-column-is (a ∷ b ∷ c ∷ d ∷ e ∷ f ∷ r) h = absurd (omega arith)
-
 state-made : (s : State) → Shape s → s ≡ state (at s)
-state-made [] h = let e : _≡_ {A = ℕ} 0 4 = h .four in absurd (omega arith)
-state-made (a ∷ []) h = let e : _≡_ {A = ℕ} 1 4 = h .four in absurd (omega arith)
-state-made (a ∷ b ∷ []) h = let e : _≡_ {A = ℕ} 2 4 = h .four in absurd (omega arith)
-state-made (a ∷ b ∷ c ∷ []) h = let e : _≡_ {A = ℕ} 3 4 = h .four in absurd (omega arith)
-state-made (a ∷ b ∷ c ∷ d ∷ []) h = λ i.
-    column-is a (h .five 0 (omega arith)) i
-    ∷ column-is b (h .five 1 (omega arith)) i
-    ∷ column-is c (h .five 2 (omega arith)) i
-    ∷ column-is d (h .five 3 (omega arith)) i
-    ∷ []
-state-made (a ∷ b ∷ c ∷ d ∷ e ∷ r) h = let z : length (a ∷ b ∷ c ∷ d ∷ e ∷ r) ≡ 4 = h .four in absurd (omega arith)
+state-made s h =
+    let column : (x : ℕ) → x < 4 → getD s x [] ≡ tabulate 5 (at s x) = λ x l. tabulated 5 (getD s x []) 0 (h .five x l) in
+    tabulated 4 s [] (h .four)
+    ∙ (λ i. column 0 (omega arith) i ∷ column 1 (omega arith) i ∷ column 2 (omega arith) i ∷ column 3 (omega arith) i ∷ [])
+
+pub state-of-bytes : (s : State) → Shape s → ((x y : ℕ) → at s x y < wordRange) → stateOf (bytesOf s) ≡ s
+state-of-bytes s h l =
+    let e : s ≡ state (at s) = state-made s h in
+    ap (λ (s : State). stateOf (bytesOf s)) e ∙ there-and-back (at s) l ∙ sym e
+
+-- ---- bytes, and the state that has them
+-- word w of the state whose bytes are v
+pub word-of-bytes : (v : Bytes) (w : ℕ) → w < stateWords → wordOf (stateOf v) w ≡ leAt 8 v (8 * w)
+unfolding stateOf column
+word-of-bytes v w h =
+    let x = w % 4 in
+    let y = w / 4 in
+    let e : x + 4 * y ≡ w = omega arith in
+    ap (λ (l : List ℕ). getD l y 0) (getD-tabulate 4 (λ x. tabulate 5 (λ y. leAt 8 v (8 * (x + 4 * y)))) x [] (omega arith))
+    ∙ getD-tabulate 5 (λ y. leAt 8 v (8 * (x + 4 * y))) y 0 (omega arith)
+    ∙ ap (λ (k : ℕ). leAt 8 v (8 * k)) e
+
+module _ (v : Bytes) (all : AllBytes v) (lv : length v ≡ stateLength) where
+  below : (w : ℕ) → w ≤ stateWords → bytesBelow (stateOf v) w ≡ take (8 * w) v
+  below zero h = refl
+  below (suc w) h =
+      let e : 8 * w + 8 ≡ 8 * suc w = omega arith in
+      ap₂ (λ (a b : Bytes). a ++ b) (below w (omega arith)) (ap (le 8) (word-of-bytes v w h) ∙ le-at v all 8 (8 * w) (omega arith))
+      ∙ sym (take-add (8 * w) 8 v)
+      ∙ ap (λ (k : ℕ). take k v) e
+
+  pub bytes-of-state : bytesOf (stateOf v) ≡ v
+  unfolding bytesOf
+  bytes-of-state = below stateWords (omega arith) ∙ take-all stateLength v (omega arith)
+
+-- it has four columns of five words
+pub words-in : (v : Bytes) → AllBytes v → (S : ℕ → ℕ → ℕ) × ((x y : ℕ) → S x y < wordRange) × (stateOf v ≡ state S)
+unfolding stateOf column
+words-in v all = (λ x y. leAt 8 v (8 * (x + 4 * y)), λ x y. leAt-less v all 8 (8 * (x + 4 * y)), refl)
 
 -- n rounds on the words are n rounds on the bytes
 pub permuted-bytes : (n : ℕ) (s : State) → Shape s → ((x y : ℕ) → at s x y < wordRange) → bytesOf (P n s) ≡ permuted n (bytesOf s)
 unfolding permuted
-permuted-bytes n s h l =
-    let e : s ≡ state (at s) = state-made s h in
-    let b : stateOf (bytesOf s) ≡ s = ap (λ (s : State). stateOf (bytesOf s)) e ∙ there-and-back (at s) l ∙ sym e in
-    ap (λ (s : State). bytesOf (P n s)) (sym b)
+permuted-bytes n s h l = ap (λ (s : State). bytesOf (P n s)) (sym (state-of-bytes s h l))
 
 -- ---- what the program's own types tell
 rows : (xs : List (List ℕ)) (us : List Val) → shadow (each (List ℕ) (Array (UInt w64) 5 .own) xs us) → (x : ℕ) → x < length xs → length (getD xs x []) ≡ 5

@@ -1,11 +1,11 @@
 // The state of ICEPOLE: its words, read and written one by one, with contracts that speak of its bytes. Internal: only crates of ours call these functions.
 ghost use mathlib.Core.Path.{_≡_};
-ghost use Prim.Native.Nat.{ℕ, _*_, _≤_, _<_};
+ghost use Prim.Native.Nat.{ℕ, _+_, _*_, _≤_, _<_};
 ghost use lib.ListN.{length, take, drop};
 ghost use Rattle.bits.specs.Bits.{wordRange};
 ghost use Rattle.bytes_le.specs.Bytes.{le, putBytes};
 ghost use Rattle.permutation.specs.State.{at};
-ghost use Rattle.state_bytes.specs.StateBytes.{Shape, stateWords, stateLength, bytesOf, permuted, startBytes};
+ghost use Rattle.state_bytes.specs.StateBytes.{Shape, stateWords, stateLength, bytesOf, stateOf, permuted, startBytes};
 
 type State = [[u64; 5]; 4];
 
@@ -48,6 +48,17 @@ pub fn load_state(s: &mut State, b: &[u8])
         set_word(s, w, k);
         w += 1;
     }
+}
+
+// The state whose bytes stand in b from index at on, by value.
+pub fn state_in(b: &[u8], at: usize) -> State
+    requires { ⌜ at + stateLength ≤ length (now b) ⌝ }
+    ensures { λ r. ⌜ r ≡ stateOf (take stateLength (drop at (now (b .entry)))) ⌝ }
+{
+    let mut s = [[0; 5]; 4];
+    load_state(&mut s, &b[at..]);
+    shaped(s);
+    s
 }
 
 // Puts the bytes of a state at the front of b.

@@ -5,8 +5,9 @@ use native.Mathlib.Omega.{arith}
 use borrow.Author.Needs.{needs}
 use lib.ListN.{length}
 use Rattle.bytes_le.specs.Bytes.{Bytes}
-use Rattle.listing.specs.Text.{ascii}
-use Rattle.listing.proofs.Puts.{field-length, head-put}
+use Rattle.plain_text.specs.Text.{ascii}
+use Rattle.plain_text.proofs.Puts.{field-length}
+use Rattle.listing.proofs.Puts.{head-put}
 use Rattle.listing.proofs.put_head.Statement.{statement}
 use Rattle.listing.proofs.put_head.Tie as tie
 

@@ -1,12 +1,12 @@
--- `listing::put_field` meets its contract: the digits touch the word.
+-- `plain_text::put_field` meets its contract: the digits touch the word.
 -- Assumes nothing.
 use mathlib.Core.Path.{_≡_}
 use native.Mathlib.Omega.{arith}
 use borrow.Author.Needs.{needs}
 use lib.ListN.{length}
-use Rattle.listing.proofs.Puts.{field-put}
-use Rattle.listing.proofs.put_field.Statement.{statement}
-use Rattle.listing.proofs.put_field.Tie as tie
+use Rattle.plain_text.proofs.Puts.{field-put}
+use Rattle.plain_text.proofs.put_field.Statement.{statement}
+use Rattle.plain_text.proofs.put_field.Tie as tie
 
 part-put-bytes-end : tie.Need-part-put-bytes-end
 part-put-bytes-end c =

@@ -1,14 +1,14 @@
--- `listing::digits_of` meets its contract. The loop's invariant: what is left of the number, before the digits found, gives its text.
+-- `plain_text::digits_of` meets its contract. The loop's invariant: what is left of the number, before the digits found, gives its text.
 -- Assumes nothing.
 use mathlib.Core.Path.{_≡_, refl, sym, ap, _∙_}
 use Prim.Native.Nat.{ℕ, _≤_}
 use native.Mathlib.Omega.{arith}
 use borrow.Author.Needs.{needs}
 use lib.ListN.{length, drop, length-set}
-use Rattle.listing.specs.Text.{decimal, digitsBefore}
-use Rattle.listing.proofs.Puts.{digit-last, digit-more}
-use Rattle.listing.proofs.digits_of.Statement.{statement}
-use Rattle.listing.proofs.digits_of.Tie as tie
+use Rattle.plain_text.specs.Text.{decimal, digitsBefore}
+use Rattle.plain_text.proofs.Puts.{digit-last, digit-more}
+use Rattle.plain_text.proofs.digits_of.Statement.{statement}
+use Rattle.plain_text.proofs.digits_of.Tie as tie
 
 abbrev Inv-loop : tie.InvT-loop
 Inv-loop n bytes₀ i₀ rest₀ bytes i rest = (digitsBefore i rest (drop i bytes) ≡ decimal n) × (i ≤ 20) × (length bytes ≡ 20)

@@ -28,3 +28,7 @@ maxDigits = 20
 -- such a number in decimal digits, with no zero in front
 unfoldable pub decimal : ℕ → Bytes
 decimal n = digitsBefore maxDigits n list.[]
+
+-- a word and a number
+abbrev pub field : Bytes → ℕ → Bytes
+field word n = list._++_ word (decimal n)
