@@ -38,9 +38,15 @@ use Rattle.reader.proofs.Marks.{SomeDiffers, seven, differing, agreeing, mark-c
 use Rattle.listing.specs.Listing.{listing, listRefusal, listAnswer, listOutput}
 use Rattle.listing.proofs.Lines.{listing-length}
 use Rattle.burst_c.specs.Calls.{checkInfoLength, fetchInfoLength, checkCallRefusal, checkCallInfo, fetchCallRefusal, fetchCallOutput, fetchCallInfo}
+use Rattle.core_c.specs.Calls.{callRefusal, callAgrees, callRound}
+use Rattle.round_log.specs.RoundLog.{verdict as logVerdict}
+use Rattle.round_log.specs.declared.Verdict.{Verdict}
+use Rattle.round_log.specs.declared.Verdict.the-variants.{Agrees, Differs, Refused}
+use Rattle.round_log.proofs.Verdicts.{Says, says}
+use Rattle.claims.specs.RoundLogs.{LogOf}
 use Rattle.claims.specs.Demand1.{Refusal, _on_, FirstOf, SealNumber, Seal, orderOfOpen, OpenNumber, NoRoomToOpen, Verify, Open, OpenCall, orderOfStart}
 use Rattle.claims.specs.Demand1.{StartNumber, Start, orderOfStrip, Strip, orderOfEnd, End, StartCall, StripCall, EndCall, Begin, Keep, Drop, Close}
-use Rattle.claims.specs.Demand1.{InList, orderOfCheck, Check, orderAtPlace, Record, NoRoomToFetch, Fetch, CheckCall, FetchCall, Print, Demand1}
+use Rattle.claims.specs.Demand1.{InList, orderOfCheck, Check, orderAtPlace, Record, NoRoomToFetch, Fetch, CheckCall, FetchCall, Print, CheckLog, Demand1}
 use Rattle.claims.proofs.Orders.{Tells, differs, less, at-most, fails, holds, either, first, row, by-tests, NoZero, behind, then-tests}
 use Rattle.claims.proofs.Lists.{zero-or-not}
 
@@ -411,6 +417,24 @@ prints f out = record {
   returned = refl;
 }
 
+-- ---- round logs
+module _ (log : Bytes) where
+  abbrev NotALog : Type 0
+  NotALog = (r : ℕ) → LogOf r log → ⊥
+
+  log-order : (v : Verdict) → Says log v → FirstOf (callRefusal v) ((19 on NotALog) ∷ [])
+  log-order (Agrees r) h = inr (λ none. none r (h .0), refl)
+  log-order (Differs n) h = inr (λ none. none (h .2 .0) (h .2 .2), refl)
+  log-order (Refused k) h = inl (h .1, h .0)
+
+  log-refused : (v : Verdict) → callRefusal v ≢ 0 → (callAgrees v ≡ 0) × (callRound v ≡ 0)
+  log-refused (Agrees r) h = absurd (h refl)
+  log-refused (Differs n) h = absurd (h refl)
+  log-refused (Refused k) h = (refl, refl)
+
+  judges : CheckLog log
+  judges = record { order = log-order (logVerdict log) (says log); refused = log-refused (logVerdict log) }
+
 pub demand1 : Demand1
 demand1 = record {
   seal-number = seal-number;
@@ -437,4 +461,5 @@ demand1 = record {
   checks-in-c = checks-in-c;
   fetches-in-c = fetches-in-c;
   prints = prints;
+  judges = judges;
 }

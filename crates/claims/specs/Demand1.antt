@@ -42,6 +42,9 @@ use Rattle.reader.specs.Reader.{recordRefusal, recordOffset, recordBytesIn, fet
 use Rattle.listing.specs.declared.Listed.{Listed}
 use Rattle.listing.specs.Listing.{listing, textRoom, listRefusal, listAnswer, listOutput}
 use Rattle.burst_c.specs.Calls.{checkInfoLength, fetchInfoLength, checkCallRefusal, checkCallInfo, fetchCallRefusal, fetchCallOutput, fetchCallInfo}
+use Rattle.round_log.specs.RoundLog.{verdict}
+use Rattle.core_c.specs.Calls.{callRefusal, callAgrees, callRound}
+use Rattle.claims.specs.RoundLogs.{LogOf}
 
 -- ---- orders
 -- a number, and the condition on which it is given
@@ -363,6 +366,12 @@ module _ (f out : Bytes) where
     -- what the C call returns
     pub returned : listRefusal f out ≡ printing .refusal
 
+-- ---- round logs (02, N9): 19. `check_log` answers the verdict itself; these are the three numbers of the C call
+module _ (log : Bytes) where
+  pub record CheckLog : Type 0 where
+    pub order : FirstOf (callRefusal (verdict log)) ((19 on ((r : ℕ) → LogOf r log → ⊥)) ∷ [])
+    pub refused : callRefusal (verdict log) ≢ 0 → (callAgrees (verdict log) ≡ 0) × (callRound (verdict log) ≡ 0)
+
 pub record Demand1 : Type 0 where
   pub seal-number : SealNumber
   pub seals : (v : Variant) (key nonce secret ad m out : Bytes) → Seal v key nonce secret ad m out
@@ -388,3 +397,4 @@ pub record Demand1 : Type 0 where
   pub checks-in-c : (key f info : Bytes) → CheckCall key f info
   pub fetches-in-c : (key f : Bytes) (place : ℕ) (out info : Bytes) → FetchCall key f place out info
   pub prints : (f out : Bytes) → Print f out
+  pub judges : (log : Bytes) → CheckLog log

@@ -1,0 +1,2 @@
+pub mod RoundLog
+pub mod WorkedLogs
