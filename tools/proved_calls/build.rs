@@ -1,6 +1,6 @@
 //! Links the static libraries of the proved code, which are built before cargo
-//! runs. Beside the calls of its own header, neither of them has a name that
-//! the linker sees, so that a program may have both.
+//! runs. Beside the calls of its own header, none of them has a name that the
+//! linker sees, so that a program may have them all.
 
 use std::path::Path;
 
@@ -9,7 +9,7 @@ fn main() {
     let folder = root.join("target/staticlib");
     println!("cargo:rerun-if-changed=build.rs");
     println!("cargo:rustc-link-search=native={}", folder.display());
-    for name in ["icepole_c", "burst_c"] {
+    for name in ["icepole_c", "burst_c", "core_c"] {
         let library = folder.join(format!("lib{name}.a"));
         println!("cargo:rerun-if-changed={}", library.display());
         if !library.is_file() {

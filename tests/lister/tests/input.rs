@@ -2,35 +2,23 @@
 //! every input.
 
 use std::fs::File;
-use std::io::Write;
-use std::process::{ChildStdin, Stdio};
-use std::thread::sleep;
-use std::time::Duration;
+use std::process::Stdio;
 
 use burst_calls::listing::{BROKEN, TOO_LONG};
-use lister::program::{listed, listed_by, listed_from, write_while_read};
+use lister::program::{write_pieces, write_while_read};
 use lister::stored::{all, Stored};
+use lister::LISTER;
 
 fn stored(name: &str) -> Stored {
     let mut all = all().into_iter();
     all.find(|stored| stored.name == name).unwrap()
 }
 
-/// Writes pieces of `length` bytes, with a wait after each so that the program
-/// reads them one by one.
-fn write_pieces(input: &mut ChildStdin, file: &[u8], length: usize) {
-    for piece in file.chunks(length) {
-        input.write_all(piece).unwrap();
-        input.flush().unwrap();
-        sleep(Duration::from_millis(1));
-    }
-}
-
 #[test]
 fn byte_by_byte() {
     for name in ["example", "too_short_63", "last_dropped", "file_shorter"] {
         let Stored { file, text, .. } = stored(name);
-        let printed = listed_by(|input| write_pieces(input, &file, 1));
+        let printed = LISTER.printed_by(|input| write_pieces(input, &file, 1));
         assert_eq!(printed, text, "{name}");
     }
 }
@@ -40,7 +28,7 @@ fn long_files_in_pieces() {
     for name in ["exactly_65536", "one_byte_too_long"] {
         let Stored { file, text, .. } = stored(name);
         for length in [251, 4_095, 4_096, 4_097, 32_768, 65_535, 65_536] {
-            let printed = listed_by(|input| write_pieces(input, &file, length));
+            let printed = LISTER.printed_by(|input| write_pieces(input, &file, length));
             assert_eq!(printed, text, "{name} in pieces of {length}");
         }
     }
@@ -53,7 +41,7 @@ fn one_byte_apart() {
         let Stored { file, text, .. } = stored(name);
         for at in [1, file.len() - 1] {
             let (first, second) = file.split_at(at);
-            let printed = listed_by(|input| {
+            let printed = LISTER.printed_by(|input| {
                 write_pieces(input, first, first.len());
                 write_pieces(input, second, second.len());
             });
@@ -66,14 +54,14 @@ fn one_byte_apart() {
 #[test]
 fn from_a_file() {
     let path = concat!(env!("CARGO_MANIFEST_DIR"), "/stored/sixty_shots.burst");
-    let printed = listed_from(File::open(path).unwrap().into());
+    let printed = LISTER.printed_from(File::open(path).unwrap().into());
     assert_eq!(printed, stored("sixty_shots").text);
 }
 
 #[test]
 fn empty_input() {
-    assert_eq!(listed(&[]), BROKEN);
-    assert_eq!(listed_from(Stdio::null()), BROKEN);
+    assert_eq!(LISTER.printed(&[]), BROKEN);
+    assert_eq!(LISTER.printed_from(Stdio::null()), BROKEN);
 }
 
 /// Bytes after a right file of 65,536 bytes make it too long, however many.
@@ -81,9 +69,9 @@ fn empty_input() {
 fn bytes_after_the_longest_file() {
     let mut file = stored("exactly_65536").file;
     file.push(0);
-    assert_eq!(listed(&file), TOO_LONG);
+    assert_eq!(LISTER.printed(&file), TOO_LONG);
     file.resize(10_000_000, 0);
-    let printed = listed_by(|input| write_while_read(input, &file));
+    let printed = LISTER.printed_by(|input| write_while_read(input, &file));
     assert_eq!(printed, TOO_LONG);
 }
 
@@ -91,5 +79,5 @@ fn bytes_after_the_longest_file() {
 #[test]
 fn endless_input() {
     let zeros = File::open("/dev/zero").unwrap();
-    assert_eq!(listed_from(zeros.into()), TOO_LONG);
+    assert_eq!(LISTER.printed_from(zeros.into()), TOO_LONG);
 }

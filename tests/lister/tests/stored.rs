@@ -8,8 +8,8 @@ use std::path::{Path, PathBuf};
 
 use burst_calls::lent::check_same;
 use burst_calls::listing::check_rooms;
-use lister::program::listed;
 use lister::stored::all;
+use lister::LISTER;
 use reference::burst::lister::list;
 
 const FOLDER: &str = concat!(env!("CARGO_MANIFEST_DIR"), "/stored");
@@ -57,7 +57,7 @@ fn made_anew() {
 fn program_prints_what_is_stored() {
     for stored in all() {
         let name = stored.name;
-        let printed = listed(&read(name, "burst"));
+        let printed = LISTER.printed(&read(name, "burst"));
         check_same(printed.as_bytes(), &read(name, "txt"), &|| name.into());
     }
 }

@@ -1,12 +1,13 @@
 //! The vectors' text: its form, and its equality with the stored file; the same
-//! equality of the printed constants. The round and the lanes that the
-//! definitions are held to.
+//! equality of the printed constants, and of the round log and its verdict. The
+//! round and the lanes that the definitions are held to.
 
 use std::fs;
 use std::path::Path;
 
 use reference::generators;
 use reference::permutation::{bits, words, State, STARTING_WORDS, ZERO_STATE};
+use reference::round_log::{check_log_by, stored_log};
 use reference::sealing::{open, Variant};
 use reference::vectors::{permutation_vectors, sealing_vectors, vector_state};
 
@@ -54,6 +55,19 @@ fn sealing_vectors_equal_the_stored_file() {
 #[test]
 fn printed_constants_equal_the_stored_file() {
     check_stored("print_constants", &generators::text());
+}
+
+/// The log that is stored as the program's input is the one made anew, and the
+/// stored output is the line of its verdict.
+#[test]
+fn the_round_log_and_its_verdict_equal_the_stored_files() {
+    let path = Path::new(CRATES).join("check_round_log/stdin");
+    let stored =
+        fs::read(&path).unwrap_or_else(|error| panic!("cannot read {}: {error}", path.display()));
+    assert!(stored == stored_log(), "{} differs", path.display());
+    let verdict = check_log_by(bits::round, &stored);
+    assert_eq!(verdict.line(), "agrees, 12 rounds\n");
+    check_stored("check_round_log", &verdict.line());
 }
 
 /// The words of a definition's file, which writes each as 0x and 16 digits.

@@ -10,6 +10,8 @@ use burst_calls::random_read::read_call;
 use burst_calls::recording::Recording;
 use c_calls::random::{good_case, open_call, seal_call};
 use c_calls::random_strips::{calls_on_state, random_list, random_state};
+use core_calls::numbers;
+use core_calls::random_log::log_call;
 use reference::burst::Call;
 use reference::random::SplitMix64;
 use reference::sealing::Variant;
@@ -68,13 +70,22 @@ fn try_strips(generator: &mut SplitMix64, what: &dyn Fn() -> String, tally: &mut
     }
 }
 
+/// A round log. Whether it agrees is told of those that are not refused.
+fn try_log(generator: &mut SplitMix64, what: &dyn Fn() -> String, tally: &mut Tally) {
+    let (number, agrees, _) = numbers(log_call(generator, what));
+    tally.add("check_log", number);
+    if number == 0 {
+        tally.add("agrees", agrees);
+    }
+}
+
 /// The case of a seed. It panics where a proved call and the reference differ.
 pub fn try_case(seed: u64, tally: &mut Tally) {
     let mut generator = SplitMix64::new(seed);
     let generator = &mut generator;
     let variant = Variant::ALL[generator.below(3)];
     let what = || format!("seed {seed}");
-    let read = match generator.below(24) {
+    let read = match generator.below(25) {
         0..4 => {
             good_case(generator, variant);
             tally.add("seal", 0);
@@ -85,7 +96,8 @@ pub fn try_case(seed: u64, tally: &mut Tally) {
         13..15 => return try_recording(&random_recording(generator), &what, tally),
         15 => return try_recording(&recording_of_any_bytes(generator), &what, tally),
         16..20 => return try_strips(generator, &what, tally),
-        20..23 => read_call(generator, &what),
+        20 => return try_log(generator, &what, tally),
+        21..24 => read_call(generator, &what),
         _ => front_call(generator, &what),
     };
     for (call, number) in ["check", "fetch", "record", "list"].into_iter().zip(read) {
