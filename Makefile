@@ -8,8 +8,8 @@ demo: lib
 test:
 	@sh scripts/test.sh
 
-# The folder build/lib, for C firmware: libicepole_c.a and libburst_c.a, their headers icepole.h and burst.h, and icepole.pc and burst.pc for pkg-config. It can be
-# moved. The libraries stand in target/staticlib too, where the tests link them.
+# The folder build/lib, for C: libicepole_c.a, libburst_c.a and libcore_c.a, their headers icepole.h, burst.h and core.h, and icepole.pc, burst.pc and core.pc for
+# pkg-config. It can be moved. The libraries stand in target/staticlib too, where the tests link them.
 lib:
 	@sh scripts/lib.sh
 
@@ -20,6 +20,14 @@ tables:
 	@echo "proving the generators, which takes a minute or two the first time" >&2
 	@rt check print_constants >build/tables.log 2>&1 || { cat build/tables.log >&2; exit 1; }
 	@target/bin/print_constants
+
+# Leaves the program build/round_log, which judges the round log on its standard input.
+.PHONY: round_log
+round_log:
+	@mkdir -p build
+	@echo "proving the checker, which takes a minute or two the first time" >&2
+	@rt check check_round_log >build/round_log.log 2>&1 || { cat build/round_log.log >&2; exit 1; }
+	@cp target/bin/check_round_log build/round_log
 
 # Times the proved code against C and OpenSSL, counts its instructions, and writes the figures of docs/BENCHMARKS.md and docs/benchmarks.svg.
 bench:

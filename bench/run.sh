@@ -11,7 +11,7 @@ to='<!-- end of the figures -->'
 marks=$(grep -Fxn -e "$from" -e "$to" $page | cut -d: -f2)
 [ "$marks" = "$(printf '%s\n%s' "$from" "$to")" ] || { echo "$page wants its two marks, once each"; exit 1; }
 
-for name in permutation_bench icepole_bench icepole_c burst_c; do
+for name in permutation_bench icepole_bench icepole_c burst_c core_c; do
     rt staticlib $name >build/staticlib.log 2>&1 || { cat build/staticlib.log; exit 1; }
 done
 c="gcc -std=c11 -Wall -Wextra -Werror -O3"
@@ -23,6 +23,7 @@ lib=target/staticlib
 $main bench/p6.c build/permutation.o $lib/libpermutation_bench.a -o build/p6
 $main bench/sealing.c build/icepole_plain.o build/icepole_shaped.o $lib/libicepole_c.a $lib/libicepole_bench.a -o build/sealing
 $main bench/strips.c $lib/libicepole_c.a -o build/strips
+$main bench/round_log.c $lib/libcore_c.a $lib/libpermutation_bench.a -o build/round_log_bench
 $main bench/burst.c $lib/libburst_c.a $lib/libicepole_c.a -o build/burst
 
 # What callgrind counts: instructions, the same in every run.
@@ -39,11 +40,15 @@ block() {
     less=$(($(count build/sealing "$1" 16384) - $(count build/sealing none 16384)))
     echo $(((more - less) / 128))
 }
-# A row of the page: name, proved, plain C, the most that was wanted.
+# Of the log of a P12, all right.
+round_log() {
+    echo $((($(count build/round_log_bench 1001) - $(count build/round_log_bench 1)) / 1000))
+}
+# A row of the page: name, proved, what it is held against, the most that was wanted.
 instructions() {
-    awk -v name="$1" -v proved="$2" -v plain="$3" -v most="$4" 'BEGIN {
+    awk -v name="$1" -v proved="$2" -v against="$3" -v most="$4" 'BEGIN {
         bold = proved > most ? "**" : ""
-        printf "| instructions %s | %s%d%s | %d | %.3f | at most %d instructions |\n", name, bold, proved, bold, plain, proved / plain, most
+        printf "| instructions %s | %s%d%s | %d | %.3f | at most %d instructions |\n", name, bold, proved, bold, against, proved / against, most
     }'
 }
 counted() {
@@ -51,6 +56,9 @@ counted() {
     instructions "of one P6" "$(p6 proved)" "$(p6 plain)" 1820
     instructions "of a 128-byte block sealed" "$(block seal)" "$(block plain_seal)" 1850
     instructions "of a 128-byte block opened" "$(block open)" "$(block plain_open)" 3850
+}
+counted_log() {
+    ! command -v valgrind >/dev/null || instructions "of a log of 13 states" "$(round_log)" "$((2 * $(p6 proved)))" 4100
 }
 machine() {
     echo "Written by \`make bench\` on $(date -u +%Y-%m-%d)."
@@ -68,11 +76,13 @@ machine() {
 build/p6 >build/p6.md
 build/sealing >build/sealing.md
 build/strips >build/strips.md
+build/round_log_bench >build/round_log.md
 build/burst largest >build/largest.md
 build/burst growth >build/growth.md
 awk -f bench/plot.awk build/growth.md >build/benchmarks.svg
 sh bench/openssl.sh >build/openssl.md
 counted >build/counted.md
+counted_log >build/counted_log.md
 {
     machine
     printf '\n### Against C\n\n| | proved | plain C | proved / plain C | wanted |\n|---|---|---|---|---|\n'
@@ -83,6 +93,8 @@ counted >build/counted.md
     cat build/openssl.md
     printf '\n### Strips\n\n'
     cat build/strips.md
+    printf '\n### Round logs\n\n| | judged | twelve rounds of the proved permutation (two P6) | judged / rounds | wanted |\n|---|---|---|---|---|\n'
+    cat build/round_log.md build/counted_log.md
     printf '\n### The largest file\n\n'
     cat build/largest.md
     printf '\n### How cost grows\n\n![Two plots: time a byte by size of picture, and time of a burst by number of pictures](benchmarks.svg)\n\n'

@@ -1,5 +1,5 @@
 #!/bin/sh
-# Builds both static libraries in target/staticlib, and gathers in build/lib what C firmware needs: the libraries, their headers and a pkg-config file for each.
+# Builds the three static libraries in target/staticlib, and gathers in build/lib what C programs need: the libraries, their headers and a pkg-config file for each.
 # The pkg-config files name the folder that they stand in, so the folder works from wherever it is moved.
 set -e
 cd "$(dirname "$0")/.."
@@ -27,7 +27,9 @@ build() {
 mkdir -p build
 build icepole_c
 build burst_c
+build core_c
 rm -rf $folder
 mkdir -p $folder
 gather icepole "ICEPOLE-128, 128a and 256a: authenticated encryption of whole messages and of strips"
 gather burst "Burst files of trail cameras: recording, checking, reading back and listing"
+gather core "For testing a hardware core of ICEPOLE: the log of its rounds judged"

@@ -172,6 +172,13 @@ p6() {
     counted 1000 "a P6" 1820 1001 1 build/p6 proved
 }
 
+# Of the log of a P12, with the library that the step of a P6 has built.
+round_log_counted() {
+    libraries="target/staticlib/libcore_c.a target/staticlib/libpermutation_bench.a"
+    gcc -std=c11 -D_POSIX_C_SOURCE=200809L -Wall -Wextra -Werror -O2 bench/round_log.c $libraries -o build/round_log_bench || return 1
+    counted 1000 "the log of a P12" 4100 1001 1 build/round_log_bench
+}
+
 # No division in compiled code, neither as an instruction nor as a call of one: its time may depend on what is divided, and the source takes bytes of secrets
 # by division (docs/PROOFS.md, "What is trusted").
 no_division() {
@@ -206,6 +213,13 @@ tables() {
     make -s tables >build/tables.out && diff crates/print_constants/stdout build/tables.out
 }
 
+# The program of make round_log, on the stored log and on one cut short.
+round_log() {
+    log=crates/check_round_log/stdin
+    make -s round_log && build/round_log <"$log" | diff crates/check_round_log/stdout - || return 1
+    [ "$(dd if="$log" bs=2079 count=1 2>/dev/null | build/round_log)" = "refused 19" ]
+}
+
 # The demonstration, with the libraries that make lib has built.
 demo() {
     make -s -o lib demo >build/demo.log 2>&1 || { tail -n 30 build/demo.log; return 1; }
@@ -227,21 +241,26 @@ step "and those that are not are seen" first_errors_tried
 step "make lib" lib
 step "the C program of sealing" c_program tests/c_calls/c/roundtrip.c libicepole_c.a
 step "the C program of bursts" c_program tests/burst_calls/c/record_and_read.c libburst_c.a
+step "the C program of round logs" c_program tests/core_calls/c/check_logs.c libcore_c.a
 step "the example" example
 step "the example on a full card" full_card
 step "the C program of sealing, sanitized" c_sanitized tests/c_calls/c/roundtrip.c libicepole_c.a
 step "the C program of bursts, sanitized" c_sanitized tests/burst_calls/c/record_and_read.c libburst_c.a
+step "the C program of round logs, sanitized" c_sanitized tests/core_calls/c/check_logs.c libcore_c.a
 step "the example, sanitized" c_sanitized examples/firmware.c libburst_c.a build/card.burst
 step "icepole from build/lib" moved_folder tests/c_calls/c/roundtrip.c icepole
 step "burst from build/lib" moved_folder examples/firmware.c burst build/card.burst
+step "core from build/lib" moved_folder tests/core_calls/c/check_logs.c core
 step "instructions of a sealed block" block icepole128_seal 1850
 step "instructions of an opened block" block icepole128_open 3850
 step "instructions of a P6" p6
-step "no division in the libraries" no_division target/staticlib/libicepole_c.a target/staticlib/libburst_c.a
+step "instructions of a round log" round_log_counted
+step "no division in the libraries" no_division target/staticlib/libicepole_c.a target/staticlib/libburst_c.a target/staticlib/libcore_c.a
 step "and one that is there is seen" division_seen
 rust_tests tests
 rust_tests tools/burst
 step "make tables" tables
+step "make round_log" round_log
 step "make demo" demo
 step "soak" soak
 echo "$passed passed, $failed failed" | tee build/result
