@@ -1,7 +1,7 @@
 // Round logs of the hardware core (02, N9): whether each state of a log is one round from the state before it.
 use state_bytes::STATE_BYTES;
 ghost use mathlib.Core.Path.{_≡_};
-ghost use Prim.Native.Nat.{_+_, _*_, _≤_};
+ghost use Prim.Native.Nat.{_≤_};
 ghost use lib.Dec.{eqb};
 ghost use lib.ListN.{length};
 ghost use Rattle.bytes_le.specs.Bytes.{same};
