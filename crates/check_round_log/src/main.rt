@@ -1,7 +1,7 @@
 // Judges the round log on standard input (02, N9), and prints the verdict in one line.
 use libc::STDIN_FILENO;
 use libc::STDOUT_FILENO;
-use round_log::MAX_ROUNDS;
+use permutation::MAX_ROUNDS;
 use round_log::Verdict;
 use state_bytes::STATE_BYTES;
 ghost use mathlib.Core.Path.{_≡_};

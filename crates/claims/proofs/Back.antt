@@ -20,6 +20,7 @@ use Rattle.burst.specs.Parts.{Fits, partAgrees, partMark, keyLength, markLength
 use Rattle.burst.specs.Layout.{maxPicture, Identity, headerBytes, recordBytes, closingSeal}
 use Rattle.burst.specs.Index.{indexRules}
 use Rattle.trace.specs.Plain.{Firing, kept, gap, pictures, gaps, usedBy, records, index, Plain, headerOf, indexOf, fileOf, CallList, plainOf}
+use Rattle.bits.proofs.Cases.{zero-or-not}
 use Rattle.burst.proofs.Rows.{known, written-among}
 use Rattle.burst.proofs.Puts.{length-header}
 use Rattle.burst.proofs.Parts.{part-agrees, part-mark}
@@ -36,7 +37,7 @@ use Rattle.trace.specs.Agreement.{editionFor}
 use Rattle.trace.proofs.Agreement.{agreement}
 use Rattle.trace.proofs.Shots.{Valid, pictures-gaps, used-least, used-most, length-index, length-records, length-closing, sound-entries}
 use Rattle.claims.specs.Demand3.{SameBurst, Filed, OneBurst, Picture, pictureAt, whole, readFrom, readShots, GivenBack, GivesBack, OnCard, Withheld, Withholds, nameGiven}
-use Rattle.claims.proofs.Lists.{fine, zero-or-not}
+use Rattle.claims.proofs.Lists.{fine}
 use Rattle.claims.proofs.Reading.{HeaderIn, header-in, entries-read, records-agree, Placed, placed, every, below}
 
 -- ---- the file of a plain burst

@@ -25,6 +25,7 @@ use Rattle.burst.specs.declared.Recorder.{Recorder}
 use Rattle.burst.specs.Editions.{written}
 use Rattle.burst.specs.Parts.{keyLength, markLength}
 use Rattle.burst.specs.Layout.{Identity, maxPicture}
+use Rattle.bits.proofs.Cases.{le-or-lt, zero-or-not}
 use Rattle.burst.proofs.Rules.{clash}
 use Rattle.burst.specs.Numbers.{usedAfter, totalFrom, beginNumber, keepNumber, dropNumber, closeNumber}
 use Rattle.burst.specs.Recorder.{editionOf, isSound, beginRefusal, beginAnswer, beginBuffer, dropRefusal, dropAnswer}
@@ -38,7 +39,12 @@ use Rattle.reader.proofs.Marks.{SomeDiffers, seven, differing, agreeing, mark-c
 use Rattle.listing.specs.Listing.{listing, listRefusal, listAnswer, listOutput}
 use Rattle.listing.proofs.Lines.{listing-length}
 use Rattle.burst_c.specs.Calls.{checkInfoLength, fetchInfoLength, checkCallRefusal, checkCallInfo, fetchCallRefusal, fetchCallOutput, fetchCallInfo}
+use Rattle.permutation.specs.State.{State}
+use Rattle.rounds_back.proofs.Answers.{driven-above, driven-within}
+use Rattle.rounds_back.specs.declared.Driven.{Driven}
+use Rattle.rounds_back.specs.declared.Direction.{Direction}
 use Rattle.core_c.specs.Calls.{callRefusal, callAgrees, callRound}
+use Rattle.core_c.proofs.Rounds.{refused-leaves}
 use Rattle.round_log.specs.RoundLog.{verdict as logVerdict}
 use Rattle.round_log.specs.declared.Verdict.{Verdict}
 use Rattle.round_log.specs.declared.Verdict.the-variants.{Agrees, Differs, Refused}
@@ -46,9 +52,8 @@ use Rattle.round_log.proofs.Verdicts.{Says, says}
 use Rattle.claims.specs.RoundLogs.{LogOf}
 use Rattle.claims.specs.Demand1.{Refusal, _on_, FirstOf, SealNumber, Seal, orderOfOpen, OpenNumber, NoRoomToOpen, Verify, Open, OpenCall, orderOfStart}
 use Rattle.claims.specs.Demand1.{StartNumber, Start, orderOfStrip, Strip, orderOfEnd, End, StartCall, StripCall, EndCall, Begin, Keep, Drop, Close}
-use Rattle.claims.specs.Demand1.{InList, orderOfCheck, Check, orderAtPlace, Record, NoRoomToFetch, Fetch, CheckCall, FetchCall, Print, CheckLog, Demand1}
+use Rattle.claims.specs.Demand1.{InList, orderOfCheck, Check, orderAtPlace, Record, NoRoomToFetch, Fetch, CheckCall, FetchCall, Print, CheckLog, Drive, RunRounds, Demand1}
 use Rattle.claims.proofs.Orders.{Tells, differs, less, at-most, fails, holds, either, first, row, by-tests, NoZero, behind, then-tests}
-use Rattle.claims.proofs.Lists.{zero-or-not}
 
 one-more : (n : ℕ) → suc n ≢ 0
 one-more n e = omega arith
@@ -435,6 +440,21 @@ module _ (log : Bytes) where
   judges : CheckLog log
   judges = record { order = log-order (logVerdict log) (says log); refused = log-refused (logVerdict log) }
 
+-- ---- rounds
+drives : (d : Direction) (s : State) (r : ℕ) → Drive d s r
+drives d s r =
+    ⊎-elim
+    (λ h. let e = ap (λ (a : Driven). a .refusal) (driven-within d s r h) in record { order = inr (λ l. absurd (omega arith), e); refused = λ n. absurd (n e) })
+    (λ h. let e = driven-above d s r h in record { order = inl (h, ap (λ (a : Driven). a .refusal) e); refused = λ n. ap (λ (a : Driven). a .state) e })
+    (le-or-lt r 12)
+
+runs-rounds-in-c : (d : Direction) (r : ℕ) (b : Bytes) → RunRounds d r b
+runs-rounds-in-c d r b =
+    record {
+      order = by-tests (row 20 (less 12 r) ∷ row 5 (less (length b) 160) ∷ []);
+      refused = λ h. sym (refused-leaves d r b _ refl h);
+    }
+
 pub demand1 : Demand1
 demand1 = record {
   seal-number = seal-number;
@@ -462,4 +482,6 @@ demand1 = record {
   fetches-in-c = fetches-in-c;
   prints = prints;
   judges = judges;
+  drives = drives;
+  runs-rounds-in-c = runs-rounds-in-c;
 }

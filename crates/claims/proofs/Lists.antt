@@ -1,14 +1,15 @@
 -- What holds of the plain burst of every list: its arguments stay, its shots are valid, and it is closed exactly if a close was answered 0.
 -- Assumes nothing.
-use mathlib.Core.Bool.{Bool, true, false, cond}
+use mathlib.Core.Bool.{true, false, cond}
 use mathlib.Core.List.{List, [], _∷_}
 use mathlib.Core.Logic.{inl, inr}
 use mathlib.Core.Path.{_≡_, refl, sym, ap, subst, _∙_}
 use Prim.Native.Nat.{ℕ, _≤_}
 use native.Mathlib.Omega.{arith}
-use borrow.Author.Tests.{eqb-true, eqb-false, ne-eqb}
+use borrow.Author.Tests.{ne-eqb}
 use lib.Dec.{eqb}
 use lib.ListN.{length, length-append}
+use Rattle.bits.proofs.Cases.{zero-or-not}
 use Rattle.bytes_le.specs.Bytes.{Bytes}
 use Rattle.burst.specs.declared.Edition.{Edition}
 use Rattle.burst.specs.Parts.{keyLength, markLength}
@@ -21,13 +22,6 @@ use Rattle.trace.specs.Agreement.{Reached}
 use Rattle.trace.proofs.Shots.{Valid, valid-snoc}
 use Rattle.trace.proofs.Agreement.{closed-8, closed-stays}
 use Rattle.claims.specs.Demand3.{CloseAnswered, rest, Answered}
-
-pub zero-or-not : (m : ℕ) (A : Type 0) → (m ≡ 0 → A) → ((m ≡ 0 → ⊥) → A) → A
-zero-or-not m A f g = by (eqb m 0) refl
-  where
-    by : (z : Bool) → eqb m 0 ≡ z → A
-    by true e = f (eqb-true m 0 e)
-    by false e = g (eqb-false m 0 e)
 
 module _ (ed : Edition) where
   -- ---- what a burst obeys, whatever the calls

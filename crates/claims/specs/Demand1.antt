@@ -43,7 +43,10 @@ use Rattle.listing.specs.declared.Listed.{Listed}
 use Rattle.listing.specs.Listing.{listing, textRoom, listRefusal, listAnswer, listOutput}
 use Rattle.burst_c.specs.Calls.{checkInfoLength, fetchInfoLength, checkCallRefusal, checkCallInfo, fetchCallRefusal, fetchCallOutput, fetchCallInfo}
 use Rattle.round_log.specs.RoundLog.{verdict}
-use Rattle.core_c.specs.Calls.{callRefusal, callAgrees, callRound}
+use Rattle.permutation.specs.State.{State}
+use Rattle.rounds_back.specs.Driven.{driven}
+use Rattle.rounds_back.specs.declared.Direction.{Direction}
+use Rattle.core_c.specs.Calls.{callRefusal, callAgrees, callRound, roundsRefusal, afterRounds}
 use Rattle.claims.specs.RoundLogs.{LogOf}
 
 -- ---- orders
@@ -372,6 +375,20 @@ module _ (log : Bytes) where
     pub order : FirstOf (callRefusal (verdict log)) ((19 on ((r : ℕ) → LogOf r log → ⊥)) ∷ [])
     pub refused : callRefusal (verdict log) ≢ 0 → (callAgrees (verdict log) ≡ 0) × (callRound (verdict log) ≡ 0)
 
+-- ---- rounds (02, N10): 20. The Rattle calls answer a state, all zeros where they refuse; the C calls change a slice in place, of n bytes: 20, then 5
+abbrev pub orderOfRounds : (r n : ℕ) → List Refusal
+orderOfRounds r n = (20 on (12 < r)) ∷ (5 on (n < 160)) ∷ []
+
+module _ (d : Direction) (s : State) (r : ℕ) where
+  pub record Drive : Type 0 where
+    pub order : FirstOf (driven d s r .refusal) ((20 on (12 < r)) ∷ [])
+    pub refused : driven d s r .refusal ≢ 0 → driven d s r .state ≡ replicate 160 0
+
+module _ (d : Direction) (r : ℕ) (b : Bytes) where
+  pub record RunRounds : Type 0 where
+    pub order : FirstOf (roundsRefusal r (length b)) (orderOfRounds r (length b))
+    pub refused : roundsRefusal r (length b) ≢ 0 → afterRounds d r b ≡ b
+
 pub record Demand1 : Type 0 where
   pub seal-number : SealNumber
   pub seals : (v : Variant) (key nonce secret ad m out : Bytes) → Seal v key nonce secret ad m out
@@ -398,3 +415,5 @@ pub record Demand1 : Type 0 where
   pub fetches-in-c : (key f : Bytes) (place : ℕ) (out info : Bytes) → FetchCall key f place out info
   pub prints : (f out : Bytes) → Print f out
   pub judges : (log : Bytes) → CheckLog log
+  pub drives : (d : Direction) (s : State) (r : ℕ) → Drive d s r
+  pub runs-rounds-in-c : (d : Direction) (r : ℕ) (b : Bytes) → RunRounds d r b

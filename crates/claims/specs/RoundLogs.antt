@@ -8,9 +8,8 @@ use mathlib.Core.Logic.{_↔_}
 use mathlib.Core.Path.{_≡_}
 use Prim.Native.Nat.{ℕ, suc, _+_, _*_, _≤_, _<_}
 use lib.ListN.{length}
-use Rattle.bits.specs.Bits.{wordRange}
 use Rattle.bytes_le.specs.Bytes.{Bytes, AllBytes, leAt}
-use Rattle.permutation.specs.State.{state}
+use Rattle.permutation.specs.State.{State, IsState}
 use Rattle.permutation.specs.Permutation.{R, P}
 use Rattle.state_bytes.specs.StateBytes.{wordOf}
 use Rattle.round_log.specs.RoundLog.{stateAt, logOfRun, verdict}
@@ -39,6 +38,6 @@ pub record RoundLogs : Type 0 where
   -- beside the request: whoever judges a round by what the log should have been from its start on comes to the same verdict, since up to the first round that
   -- differs the states of the log are those of the run. (At n = r this is acceptance; at n and at n + 1, that round n is the first that differs.)
   pub from-start : (log : Bytes) (n : ℕ) → RightBelow log n ↔ ((i : ℕ) → i ≤ n → stateAt log i ≡ P i (stateAt log 0))
-  -- beside the request: what is accepted are exactly the logs of runs, from states of four columns of five words, where the log's numbers are bytes
+  -- beside the request: what is accepted are exactly the logs of runs, from states of the core, where the log's numbers are bytes
   pub of-runs : (log : Bytes) → AllBytes log → (r : ℕ)
-      → (verdict log ≡ Agrees r) ↔ ((1 ≤ r) × (r ≤ 12) × ((S : ℕ → ℕ → ℕ) × ((x y : ℕ) → S x y < wordRange) × (log ≡ logOfRun (state S) r)))
+      → (verdict log ≡ Agrees r) ↔ ((1 ≤ r) × (r ≤ 12) × ((s : State) × IsState s × (log ≡ logOfRun s r)))

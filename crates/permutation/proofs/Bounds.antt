@@ -1,6 +1,6 @@
 -- The words of a state that the program holds are below 2^64, whatever the number of its columns; and so are those that a round leaves.
 -- Assumes nothing.
-use mathlib.Core.Path.{_≡_, refl}
+use mathlib.Core.Path.{refl, ap}
 use mathlib.Core.List.{List, [], _∷_}
 use Prim.Native.Nat.{ℕ, zero, suc, _^_, _<_}
 use lib.Bits.{bitXor}
@@ -15,8 +15,8 @@ use denote.Shadow.{shadow}
 use borrow.Author.Needs.{elem-fits}
 use Rattle.bits.specs.Bits.{word}
 use Rattle.bits.proofs.Laws.{number-below}
-use Rattle.permutation.specs.State.{Grid, State, at, slice, state}
-use Rattle.permutation.specs.Permutation.{μ, ρ, π, ψ, R, constants, sbox}
+use Rattle.permutation.specs.State.{Grid, State, IsState, at, slice}
+use Rattle.permutation.specs.Permutation.{μ, ρ, π, ψ, κ, R, constants, sbox}
 use Rattle.permutation.proofs.Columns.{Fit, xor64}
 
 rows : (xs : List (List ℕ)) (us : List Val) → shadow (each (List ℕ) (Array (UInt w64) 5 .own) xs us) → (x y : ℕ) → at xs x y < 2 ^ 64
@@ -28,8 +28,8 @@ rows (r ∷ xs) (u ∷ us) p (suc x) y = rows xs us (p .1) x y
 pub words : {n : ℕ} (s : Grid) (vs : List Val) → Is (Array (Array (UInt w64) 5) n) s vs → (x y : ℕ) → at s x y < 2 ^ 64
 words s vs p = rows s (p .0) (p .1 .1)
 
--- ---- a round leaves four columns of five words below 2^64, whatever it was given
-fit-below : (l : List ℕ) → Fit l → (n : ℕ) → getD l n 0 < 2 ^ 64
+-- ---- κ leaves a state of the core, and so does a round, whatever it was given
+pub fit-below : (l : List ℕ) → Fit l → (n : ℕ) → getD l n 0 < 2 ^ 64
 fit-below [] f n = lit< tt
 fit-below (c ∷ l) f zero = f .0
 fit-below (c ∷ l) f (suc n) = fit-below l (f .1) n
@@ -49,11 +49,13 @@ module _ (S : ℕ → ℕ → ℕ) (c : ℕ) where
   mixed-below h hc zero (suc y) = h zero (suc y)
   mixed-below h hc (suc x) y = h (suc x) y
 
-pub round-words : (s : State) (n : ℕ) → (S : ℕ → ℕ → ℕ) × ((x y : ℕ) → S x y < 2 ^ 64) × (R s n ≡ state S)
-unfolding R ψ
-round-words s n =
-    let t : State = π (ρ (μ s)) in
-    let S : ℕ → ℕ → ℕ = λ x y. word (λ z. sbox (slice t z x) y) in
-    let below : (x y : ℕ) → S x y < 2 ^ 64 = λ x y. number-below 64 (λ z. sbox (slice t z x) y) in
+pub kappa-state : (s : State) → IsState s → (n : ℕ) → IsState (κ s n)
+kappa-state s w n =
     let c : ℕ = getD constants n 0 in
-    (mixed S c, mixed-below S c below (fit-below constants constants-fit n), refl)
+    (mixed (w .0) c, mixed-below (w .0) c (w .1) (fit-below constants constants-fit n), ap (λ (t : State). κ t n) (w .2))
+
+pub round-state : (s : State) (n : ℕ) → IsState (R s n)
+unfolding R ψ
+round-state s n =
+    let t : State = π (ρ (μ s)) in
+    kappa-state (ψ t) (λ x y. word (λ z. sbox (slice t z x) y), λ x y. number-below 64 (λ z. sbox (slice t z x) y), refl) n

@@ -20,7 +20,7 @@ and-difference true false = refl
 and-difference true true = refl
 
 -- no neighbours differ: all five are 1, or all five are 0
-none-differ : (a b c d e : Bool) → not ((a ⊕ b) || (b ⊕ c) || (c ⊕ d) || (d ⊕ e))
+pub none-differ : (a b c d e : Bool) → not ((a ⊕ b) || (b ⊕ c) || (c ⊕ d) || (d ⊕ e))
     ≡ (a && b && c && d && e) ⊕ (not a && not b && not c && not d && not e)
 none-differ false false false false false = refl
 none-differ false false false false true = refl
@@ -45,14 +45,14 @@ module _ (m : Column) (h : (k : ℕ) → getD m k 0 < 2 ^ 64) where
   M k = getD m k 0
 
   -- 1 where two neighbours differ
-  abbrev differing : ℕ
+  abbrev pub differing : ℕ
   differing = bitOr (bitOr (bitOr (bitXor (M 0) (M 1)) (bitXor (M 1) (M 2))) (bitXor (M 2) (M 3))) (bitXor (M 3) (M 4))
 
   -- word k as the code works it out
   abbrev by-differing : ℕ → ℕ
   by-differing k = bitXor (bitXor (M k) (bitAnd (M ((k + 2) % 5)) (bitXor (M ((k + 1) % 5)) (M ((k + 2) % 5))))) (~ differing)
 
-  bit-same : (z : ℕ) → z < 64 → bit (~ differing) z ≡ not (bit differing z)
+  pub bit-same : (z : ℕ) → z < 64 → bit (~ differing) z ≡ not (bit differing z)
   bit-same z l = bit-not 64 differing z (search (or64, xor64, h) depth 12) l
 
   box : (k : ℕ) → by-differing k ≡ word (λ z. sbox (λ j. bit (M j) z) k)

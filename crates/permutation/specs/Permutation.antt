@@ -18,9 +18,12 @@ matrix =
     ∷ (1 ∷ 18 ∷ 2 ∷ 1 ∷ [])
     ∷ []
 
--- row x of the matrix, times the vector Z
+-- row x of a matrix, times the vector Z
+abbrev pub times : Grid → (ℕ → Element) → ℕ → Element
+times m Z x = sum (tabulate 4 (λ j. element (at m x j) · Z j))
+
 abbrev pub mix : (ℕ → Element) → ℕ → Element
-mix Z x = sum (tabulate 4 (λ j. element (at matrix x j) · Z j))
+mix = times matrix
 
 unfoldable pub μ : State → State
 μ s = state (λ x y. word (λ z. mix (slice s z) x y))
@@ -82,6 +85,10 @@ constants =
     ∷ 0x00002468EFF13579
     ∷ 0x00001234F7F89ABC
     ∷ []
+
+-- the rounds that have a constant
+abbrev pub maxRounds : ℕ
+maxRounds = 12
 
 -- S[0][0] := S[0][0] xor c
 abbrev pub addConstant : State → ℕ → State

@@ -3,9 +3,10 @@
 -- Assumes nothing.
 use mathlib.Core.Bool.{Bool}
 use mathlib.Core.List.{List, [], _∷_}
-use Prim.Native.Nat.{ℕ, zero, suc}
+use mathlib.Core.Path.{_≡_}
+use Prim.Native.Nat.{ℕ, zero, suc, _<_}
 use lib.ListN.{getD, set}
-use Rattle.bits.specs.Bits.{bit}
+use Rattle.bits.specs.Bits.{bit, wordRange}
 
 -- f 0, f 1, .., f (n - 1)
 abbrev pub tabulate : {A : Type 0} → ℕ → (ℕ → A) → List A
@@ -34,6 +35,10 @@ State = Grid
 -- the state with S[x][y] = f x y
 abbrev pub state : (ℕ → ℕ → ℕ) → State
 state = grid 4 5
+
+-- s is a state of the core: four columns of five words, each below 2^64
+abbrev pub IsState : State → Type 0
+IsState s = (S : ℕ → ℕ → ℕ) × ((x y : ℕ) → S x y < wordRange) × (s ≡ state S)
 
 -- slice z of s: S[x][y][z], bit z of S[x][y], at x and y
 abbrev pub slice : State → ℕ → ℕ → ℕ → Bool

@@ -39,6 +39,9 @@ const CONSTANTS: [u64; 12] = [
     0x00001234F7F89ABC,
 ];
 
+// The rounds that have a constant.
+pub const MAX_ROUNDS: usize = 12;
+
 // "The state is initialized as follows" (003, 2.6). Read as ordinary hex numbers (01), though the paper says "little-endian format".
 const START: [[u64; 5]; 4] = [
     [
@@ -87,7 +90,7 @@ fn times18(p: Column) -> Column
 }
 
 // "The operations are done in GF(2^5)" (003, 2.5, μ): the sum of four elements.
-fn sum(p: Column, q: Column, t: Column, u: Column) -> Column
+pub fn sum(p: Column, q: Column, t: Column, u: Column) -> Column
     ensures { λ r. ⌜ r ≡ sumWords p q t u ⌝ }
 {
     [
@@ -127,7 +130,7 @@ pub fn rotate(w: u64, k: u32) -> u64
 }
 
 // The words of a column, each rotated left by its offset: "S[x][y] := S[x][y] <<< offsets[x][y]" for one x (003, 2.5, ρ).
-fn rotate_column(w: Column, k: [u32; 5]) -> Column
+pub fn rotate_column(w: Column, k: [u32; 5]) -> Column
     requires { ⌜ (getD k 0 0 < wordLength) × (getD k 1 0 < wordLength) × (getD k 2 0 < wordLength) × (getD k 3 0 < wordLength) × (getD k 4 0 < wordLength) ⌝ }
     ensures { λ r. ⌜ r ≡ rotlColumn w k ⌝ }
 {
@@ -202,7 +205,7 @@ fn psi(s: State) -> State
 }
 
 // "In κ the 64-bit constant is xored with S[0][0]" (003, 2.5, κ): "S[0][0] := S[0][0] ⊕ constant[numberOfRound]".
-fn kappa(s: State, constant: &[u64; 12], number: usize) -> State
+pub fn kappa(s: State, constant: &[u64; 12], number: usize) -> State
     requires { ⌜ (number < 12) × (now constant ≡ constants) ⌝ }
     ensures { λ r. ⌜ r ≡ κ s number ⌝ }
 {
@@ -227,9 +230,9 @@ fn round(s: State, constant: &[u64; 12], number: usize) -> [State; 5]
     [after_mu, after_rho, after_pi, after_psi, after_kappa]
 }
 
-// "P is an iterated permutation and a number of rounds is a parameter of the permutation" (003, 2.5): the first n rounds, in place. The table is copied once. In
-// the cipher's libraries this is the only call of round, for speed: round_at, below, is in none of them.
-fn rounds(s: &mut State, n: usize)
+// "P is an iterated permutation and a number of rounds is a parameter of the permutation" (003, 2.5): the first n rounds, in place. The table is copied once. This
+// is the only call of round, for speed. Internal, as rotate_column and kappa are: only crates of ours call it.
+pub fn rounds(s: &mut State, n: usize)
     requires { ⌜ n ≤ 12 ⌝ }
     ensures { λ _. ⌜ now (s .exit) ≡ P n (now (s .entry)) ⌝ }
 {
@@ -275,13 +278,20 @@ pub fn p12(s: State) -> State
     t
 }
 
-// One round by itself (003, 2.5), for crates of ours that look at the states between rounds. The table is handed in, so that a loop copies it once.
+// One round by itself (003, 2.5), for crates of ours that look at the states between rounds. The table is handed in, so that a loop copies it once. It repeats
+// the lines of round and of psi: with a second caller the compiler no longer puts those in line.
 pub fn round_at(s: State, constant: &[u64; 12], number: usize) -> State
     requires { ⌜ (number < 12) × (now constant ≡ constants) ⌝ }
     ensures { λ r. ⌜ r ≡ R s number ⌝ }
 {
-    let states = round(s, constant, number);
-    states[AFTER_KAPPA]
+    let after_mu = mu(s);
+    let after_rho = rho(after_mu);
+    let after_pi = pi(after_rho);
+    let column1 = sbox_by_differences(after_pi[1]);
+    let column3 = sbox_by_differences(after_pi[3]);
+    let column2 = sbox_by_differences(after_pi[2]);
+    let column0 = sbox_by_differences(after_pi[0]);
+    kappa([column0, column1, column2, column3], constant, number)
 }
 
 // The table that round_at wants.

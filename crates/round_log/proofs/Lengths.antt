@@ -9,7 +9,8 @@ use lib.ListN.{length}
 use borrow.Author.Tests.{eq-eqb, eqb-true, le-leb, leb-true}
 use Rattle.bits.proofs.Cases.{and-true}
 use Rattle.bytes_le.specs.Bytes.{Bytes}
-use Rattle.round_log.specs.RoundLog.{maxRounds, logLength, roundsIn, isLogLength, judged, verdict}
+use Rattle.permutation.specs.Permutation.{maxRounds}
+use Rattle.round_log.specs.RoundLog.{logLength, roundsIn, isLogLength, judged, verdict}
 use Rattle.round_log.specs.declared.Verdict.the-variants.{Refused}
 
 -- n bytes are a log of r rounds

@@ -7,17 +7,16 @@ use Prim.Native.Nat.{ℕ, zero, suc, _+_, _-_, _*_, _≤_, _<_}
 use native.Mathlib.Omega.{arith}
 use lib.ListN.{length, take, drop, length-append, length-drop}
 use lib.Seq.{drop-append-le, drop-at, drop-drop, take-add, take-all, take-append-le}
-use Rattle.bits.specs.Bits.{wordRange}
 use Rattle.bits.proofs.Cases.{le-or-lt}
 use Rattle.bytes_le.specs.Bytes.{Bytes, AllBytes, leAt, unle}
 use Rattle.bytes_le.proofs.All.{all-drop, all-take}
 use Rattle.bytes_le.proofs.Laws.{length-part, part-part}
-use Rattle.permutation.specs.State.{State, state}
+use Rattle.permutation.specs.State.{State, IsState}
 use Rattle.permutation.specs.Permutation.{R, P}
-use Rattle.permutation.proofs.Bounds.{round-words}
+use Rattle.permutation.proofs.Bounds.{round-state}
 use Rattle.state_bytes.specs.StateBytes.{bytesOf, stateOf, wordOf}
 use Rattle.state_bytes.proofs.Lengths.{length-bytes}
-use Rattle.state_bytes.proofs.View.{bytes-of-state, there-and-back, word-of-bytes, words-in}
+use Rattle.state_bytes.proofs.View.{bytes-of-state, state-held, state-of-is, word-of-bytes}
 use Rattle.round_log.specs.RoundLog.{stateAt, logOfRun, verdict}
 use Rattle.round_log.specs.declared.Verdict.the-variants.{Agrees}
 use Rattle.round_log.proofs.Lengths.{LogOf}
@@ -73,18 +72,15 @@ run-bytes s (suc r) i h =
     ap (take 160) (drop-at a b (160 * i) f) ∙ take-all 160 b (omega arith) ∙ ap (λ (k : ℕ). bytesOf (P k s)) (sym e))
     (le-or-lt i r)
 
--- a run goes through states of four columns of five words
-run-words : (S : ℕ → ℕ → ℕ) → ((x y : ℕ) → S x y < wordRange) → (i : ℕ)
-    → (T : ℕ → ℕ → ℕ) × ((x y : ℕ) → T x y < wordRange) × (P i (state S) ≡ state T)
+-- a run goes through states of the core
+run-state : (s : State) → IsState s → (i : ℕ) → IsState (P i s)
 unfolding P
-run-words S h zero = (S, h, refl)
-run-words S h (suc i) = round-words (P i (state S)) i
+run-state s w zero = w
+run-state s w (suc i) = round-state (P i s) i
 
-run-states : (S : ℕ → ℕ → ℕ) → ((x y : ℕ) → S x y < wordRange) → (r i : ℕ) → i ≤ r → stateAt (logOfRun (state S) r) i ≡ P i (state S)
+run-states : (s : State) → IsState s → (r i : ℕ) → i ≤ r → stateAt (logOfRun s r) i ≡ P i s
 unfolding stateAt
-run-states S h r i l =
-    let t = run-words S h i in
-    ap stateOf (run-bytes (state S) r i l) ∙ ap (λ (s : State). stateOf (bytesOf s)) (t .2) ∙ there-and-back (t .0) (t .1) ∙ sym (t .2)
+run-states s w r i l = ap stateOf (run-bytes s r i l) ∙ state-held (P i s) (run-state s w i)
 
 -- the first 1 + k states of a log whose rounds are right
 module _ (log : Bytes) (all : AllBytes log) (r : ℕ) (sized : LogOf r (length log)) (right : RightBelow log r) where
@@ -111,7 +107,7 @@ module _ (log : Bytes) (all : AllBytes log) (r : ℕ) (sized : LogOf r (length l
 
 -- ---- what is accepted are the logs of runs
 abbrev Run : Bytes → ℕ → Type 0
-Run log r = (1 ≤ r) × (r ≤ 12) × ((S : ℕ → ℕ → ℕ) × ((x y : ℕ) → S x y < wordRange) × (log ≡ logOfRun (state S) r))
+Run log r = (1 ≤ r) × (r ≤ 12) × ((s : State) × IsState s × (log ≡ logOfRun s r))
 
 pub of-runs : (log : Bytes) → AllBytes log → (r : ℕ) → (verdict log ≡ Agrees r) ↔ Run log r
 unfolding stateAt P
@@ -120,14 +116,13 @@ of-runs log all r = (there, back)
     there : verdict log ≡ Agrees r → Run log r
     there e =
         let a = verdict-says log (Agrees r) .0 e in
-        let t = words-in (take 160 (drop (160 * 0) log)) (all-take 160 (drop (160 * 0) log) (all-drop (160 * 0) log all)) in
-        (a .0 .0, a .0 .1, (t .0, t .1, whole log all r (a .0) (a .1) ∙ ap (λ (s : State). logOfRun s r) (t .2)))
+        let w = state-of-is (take 160 (drop (160 * 0) log)) (all-take 160 (drop (160 * 0) log) (all-drop (160 * 0) log all)) in
+        (a .0 .0, a .0 .1, (stateAt log 0, w, whole log all r (a .0) (a .1)))
 
     back : Run log r → verdict log ≡ Agrees r
     back h =
-        let S = h .2 .0 in
-        let e : log ≡ logOfRun (state S) r = h .2 .2 in
-        let states : (i : ℕ) → i ≤ r → stateAt log i ≡ P i (state S) =
-        λ i l. ap (λ (b : Bytes). stateAt b i) e ∙ run-states S (h .2 .1) r i l in
+        let s : State = h .2 .0 in
+        let e : log ≡ logOfRun s r = h .2 .2 in
+        let states : (i : ℕ) → i ≤ r → stateAt log i ≡ P i s = λ i l. ap (λ (b : Bytes). stateAt b i) e ∙ run-states s (h .2 .1) r i l in
         let run : (i : ℕ) → i ≤ r → stateAt log i ≡ P i (stateAt log 0) = λ i l. states i l ∙ ap (P i) (sym (states 0 (omega arith))) in
-        verdict-says log (Agrees r) .1 ((h .0, h .1, ap length e ∙ length-run (state S) r), from-start log r .1 run)
+        verdict-says log (Agrees r) .1 ((h .0, h .1, ap length e ∙ length-run s r), from-start log r .1 run)

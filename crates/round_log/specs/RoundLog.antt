@@ -8,7 +8,7 @@ use lib.Dec.{eqb, leb}
 use lib.ListN.{length, take, drop}
 use Rattle.bytes_le.specs.Bytes.{Bytes, same}
 use Rattle.permutation.specs.State.{State}
-use Rattle.permutation.specs.Permutation.{R, P}
+use Rattle.permutation.specs.Permutation.{maxRounds, R, P}
 use Rattle.state_bytes.specs.StateBytes.{stateLength, bytesOf, stateOf}
 use Rattle.round_log.specs.declared.Verdict.{Verdict}
 use Rattle.round_log.specs.declared.Verdict.the-variants.{Agrees, Differs, Refused}
@@ -19,9 +19,6 @@ logOfRun s zero = bytesOf s
 logOfRun s (suc r) = logOfRun s r ++ bytesOf (P (suc r) s)
 
 -- ---- the length: "A checker takes a log of 1 + r states, r from 1 to 12"
-abbrev pub maxRounds : ℕ
-maxRounds = 12
-
 -- the bytes of 1 + r states
 abbrev pub logLength : ℕ → ℕ
 logLength r = stateLength * (1 + r)

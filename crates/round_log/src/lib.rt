@@ -1,11 +1,13 @@
 // Round logs of the hardware core (02, N9): whether each state of a log is one round from the state before it.
+use permutation::MAX_ROUNDS;
 use state_bytes::STATE_BYTES;
 ghost use mathlib.Core.Path.{_≡_};
 ghost use Prim.Native.Nat.{_≤_};
 ghost use lib.Dec.{eqb};
 ghost use lib.ListN.{length};
 ghost use Rattle.bytes_le.specs.Bytes.{same};
-ghost use Rattle.round_log.specs.RoundLog.{maxRounds, logLength, stateAt, sameState, judged, verdict};
+ghost use Rattle.permutation.specs.Permutation.{maxRounds};
+ghost use Rattle.round_log.specs.RoundLog.{logLength, stateAt, sameState, judged, verdict};
 
 type State = [[u64; 5]; 4];
 
@@ -21,9 +23,6 @@ pub enum Verdict {
 
 // The refusal number of a length that no log has.
 pub const LOG_LENGTH: u32 = 19;
-
-// The rounds of the longest log.
-pub const MAX_ROUNDS: usize = 12;
 
 // The differences of two columns in one word, which is 0 where the columns are the same.
 fn differences(a: Column, b: Column) -> u64

@@ -1,8 +1,9 @@
 -- Nothing is lost or moved on the way from a state to its bytes and back, so that rounds on words are rounds on bytes.
 -- Assumes nothing.
-use mathlib.Core.Path.{_≡_, refl, sym, ap, ap₂, _∙_}
+use mathlib.Core.Path.{_≡_, refl, sym, ap, ap₂, _∙_, subst⁻¹}
 use mathlib.Core.List.{List, [], _∷_, _++_}
 use Prim.Native.Nat.{ℕ, zero, suc, _+_, _*_, _/_, _%_, _≤_, _<_}
+use lib.Dec.{lit<}
 use lib.ListN.{getD, length, take}
 use lib.Seq.{take-add, take-all}
 use mir.Syntax.{w64}
@@ -14,15 +15,15 @@ use denote.Shadow.{shadow}
 use native.Mathlib.Nat.{not-suc-le-zero, le-of-suc-le-suc}
 use native.Mathlib.Omega.{arith}
 use Rattle.permutation.specs.Permutation.{P}
-use Rattle.permutation.proofs.Tabulate.{getD-tabulate, tabulated}
-use Rattle.permutation.specs.State.{State, at, state, tabulate}
+use Rattle.permutation.proofs.Tabulate.{getD-each, getD-tabulate, tabulated}
+use Rattle.permutation.specs.State.{State, IsState, at, state, tabulate}
 use Rattle.bytes_le.proofs.All.{le-at, leAt-less}
 use Rattle.bytes_le.proofs.Laws.{unle-8}
 use Rattle.bits.specs.Bits.{wordRange}
 use Rattle.bytes_le.specs.Bytes.{Bytes, AllBytes, le, leAt}
 use Rattle.state_bytes.specs.StateBytes.{Shape, bytesBelow, bytesOf, column, permuted, stateLength, stateOf, stateWords, wordOf}
 
-pub there-and-back : (f : ℕ → ℕ → ℕ) → ((x y : ℕ) → f x y < wordRange) → stateOf (bytesOf (state f)) ≡ state f
+there-and-back : (f : ℕ → ℕ → ℕ) → ((x y : ℕ) → f x y < wordRange) → stateOf (bytesOf (state f)) ≡ state f
 unfolding stateOf bytesOf column leAt
 there-and-back f h i =
     (unle-8 (f 0 0) (h 0 0) i ∷ unle-8 (f 0 1) (h 0 1) i ∷ unle-8 (f 0 2) (h 0 2) i ∷ unle-8 (f 0 3) (h 0 3) i ∷ unle-8 (f 0 4) (h 0 4) i ∷ [])
@@ -31,17 +32,33 @@ there-and-back f h i =
     ∷ (unle-8 (f 3 0) (h 3 0) i ∷ unle-8 (f 3 1) (h 3 1) i ∷ unle-8 (f 3 2) (h 3 2) i ∷ unle-8 (f 3 3) (h 3 3) i ∷ unle-8 (f 3 4) (h 3 4) i ∷ [])
     ∷ []
 
--- ---- a state that the program holds, and its bytes: there and back
+pub state-held : (s : State) → IsState s → stateOf (bytesOf s) ≡ s
+state-held s w = ap (λ (t : State). stateOf (bytesOf t)) (w .2) ∙ there-and-back (w .0) (w .1) ∙ sym (w .2)
+
+-- ---- what the program holds are the states of the core
 state-made : (s : State) → Shape s → s ≡ state (at s)
 state-made s h =
     let column : (x : ℕ) → x < 4 → getD s x [] ≡ tabulate 5 (at s x) = λ x l. tabulated 5 (getD s x []) 0 (h .five x l) in
     tabulated 4 s [] (h .four)
     ∙ (λ i. column 0 (omega arith) i ∷ column 1 (omega arith) i ∷ column 2 (omega arith) i ∷ column 3 (omega arith) i ∷ [])
 
+pub shaped-state : (s : State) → Shape s → ((x y : ℕ) → at s x y < wordRange) → IsState s
+shaped-state s h l = (at s, l, state-made s h)
+
+-- a word of a state, or the 0 that stands for one beside it
+word-below : (S : ℕ → ℕ → ℕ) → ((x y : ℕ) → S x y < wordRange) → (x y : ℕ) → at (state S) x y < wordRange
+word-below S h =
+    getD-each (λ (c : List ℕ). (y : ℕ) → getD c y 0 < wordRange) 4 (λ x. tabulate 5 (S x)) []
+    (λ x. getD-each (λ (w : ℕ). w < wordRange) 5 (S x) 0 (h x) (lit< tt)) (λ y. lit< tt)
+
+pub state-shaped : (s : State) → IsState s → Shape s × ((x y : ℕ) → at s x y < wordRange)
+state-shaped s w = (
+  record { four = ap length (w .2); five = λ x h. ap (λ (t : State). length (getD t x [])) (w .2) ∙ ap length (getD-tabulate 4 (λ x. tabulate 5 (w .0 x)) x [] h) },
+  λ x y. subst⁻¹ (λ (t : State). at t x y < wordRange) (w .2) (word-below (w .0) (w .1) x y),
+)
+
 pub state-of-bytes : (s : State) → Shape s → ((x y : ℕ) → at s x y < wordRange) → stateOf (bytesOf s) ≡ s
-state-of-bytes s h l =
-    let e : s ≡ state (at s) = state-made s h in
-    ap (λ (s : State). stateOf (bytesOf s)) e ∙ there-and-back (at s) l ∙ sym e
+state-of-bytes s h l = state-held s (shaped-state s h l)
 
 -- ---- bytes, and the state that has them
 -- word w of the state whose bytes are v
@@ -68,10 +85,9 @@ module _ (v : Bytes) (all : AllBytes v) (lv : length v ≡ stateLength) where
   unfolding bytesOf
   bytes-of-state = below stateWords (omega arith) ∙ take-all stateLength v (omega arith)
 
--- it has four columns of five words
-pub words-in : (v : Bytes) → AllBytes v → (S : ℕ → ℕ → ℕ) × ((x y : ℕ) → S x y < wordRange) × (stateOf v ≡ state S)
+pub state-of-is : (v : Bytes) → AllBytes v → IsState (stateOf v)
 unfolding stateOf column
-words-in v all = (λ x y. leAt 8 v (8 * (x + 4 * y)), λ x y. leAt-less v all 8 (8 * (x + 4 * y)), refl)
+state-of-is v all = (λ x y. leAt 8 v (8 * (x + 4 * y)), λ x y. leAt-less v all 8 (8 * (x + 4 * y)), refl)
 
 -- n rounds on the words are n rounds on the bytes
 pub permuted-bytes : (n : ℕ) (s : State) → Shape s → ((x y : ℕ) → at s x y < wordRange) → bytesOf (P n s) ≡ permuted n (bytesOf s)
