@@ -1,8 +1,11 @@
-//! The C call of include/core.h, held against the reference's judging of round
-//! logs, and the logs that its tests share.
+//! The C calls of include/core.h, held against the reference, and what their
+//! tests share. Here is the judging of round logs; `rounds` has the other calls.
 
 pub mod logs;
 pub mod random_log;
+pub mod random_rounds;
+pub mod rounds;
+pub mod states;
 
 use burst_calls::lent::{Lent, LentNumber};
 use reference::round_log::{self, Verdict, REFUSAL};

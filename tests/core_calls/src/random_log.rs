@@ -1,17 +1,9 @@
 //! One random log, right or wrong, held against the reference.
 
-use crate::logs::{sparse_state, spliced, turn_bit, STATE_BITS};
-use reference::permutation::State;
+use crate::logs::{spliced, turn_bit};
+use crate::states::{random_state, STATE_BITS};
 use reference::random::SplitMix64;
 use reference::round_log::{log_of, log_with, Verdict, STATE_BYTES};
-
-/// One time in four a state with a few ones.
-fn random_state(generator: &mut SplitMix64) -> State {
-    match generator.below(4) {
-        0 => sparse_state(generator),
-        _ => generator.next_state(),
-    }
-}
 
 /// Up to four bits are turned, anywhere or all in one state.
 fn damaged(generator: &mut SplitMix64, mut log: Vec<u8>) -> Vec<u8> {

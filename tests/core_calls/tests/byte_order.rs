@@ -1,7 +1,7 @@
 //! States whose bytes are in another order than that of the words w = x + 4y,
 //! low byte first.
 
-use core_calls::logs::{starts, ALL_ONES};
+use core_calls::states::{starts, ALL_ONES};
 use core_calls::{check_both, check_log};
 use reference::permutation::{State, STARTING_WORDS, ZERO_STATE};
 use reference::random::SplitMix64;

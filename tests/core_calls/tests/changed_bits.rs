@@ -3,7 +3,8 @@
 use std::collections::BTreeSet;
 
 use core_calls::check_both;
-use core_calls::logs::{starts, turn_bit, STATE_BITS};
+use core_calls::logs::turn_bit;
+use core_calls::states::{starts, STATE_BITS};
 use reference::random::SplitMix64;
 use reference::round_log::{differing_rounds, log_of, Verdict};
 

@@ -1,7 +1,7 @@
 //! Logs of cores whose rounds have other constants.
 
 use core_calls::check_both;
-use core_calls::logs::starts;
+use core_calls::states::starts;
 use reference::random::SplitMix64;
 use reference::round_log::{log_with, Verdict};
 

@@ -1,6 +1,6 @@
 //! Logs of every count of rounds, from states of all kinds, agree.
 
-use core_calls::logs::starts;
+use core_calls::states::starts;
 use core_calls::{check_both, judge};
 use reference::permutation::STARTING_WORDS;
 use reference::random::SplitMix64;

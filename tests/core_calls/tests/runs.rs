@@ -2,7 +2,8 @@
 //! differs is named, whatever follows it.
 
 use core_calls::check_both;
-use core_calls::logs::{sparse_state, spliced, starts, turn_bit, STATE_BITS};
+use core_calls::logs::{spliced, turn_bit};
+use core_calls::states::{sparse_state, starts, STATE_BITS};
 use reference::random::SplitMix64;
 use reference::round_log::{differing_rounds, log_of, log_with, state_of, Verdict, STATE_BYTES};
 

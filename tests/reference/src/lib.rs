@@ -4,7 +4,8 @@
 //! scope paper decides. The proved code is tested against it.
 //!
 //! `generators` makes the tables of constants anew, from FIPS 202 and request N8.
-//! `round_log` judges the logs of the hardware core, request N9.
+//! `round_log` judges the logs of the hardware core, request N9. `rounds_back`
+//! undoes its rounds, request N10.
 //! `page` reads docs/FORMAT.md, for the tests that hold that page true.
 
 pub mod burst;
@@ -13,6 +14,7 @@ pub mod page;
 pub mod permutation;
 pub mod random;
 pub mod round_log;
+pub mod rounds_back;
 pub mod sealing;
 pub mod strips;
 pub mod vectors;

@@ -22,14 +22,11 @@ fn sbox_is_a_bijection() {
     assert_eq!(outputs, (0..32).collect::<Vec<u8>>());
 }
 
-/// The image under mu of one bit of slice z, as 20 bits: bit 5x + y is S[x][y][z].
+/// The image under mu of one bit of slice z.
 fn mu_image(mu: fn(State) -> State, x: usize, y: usize, z: usize) -> u32 {
     let mut state = ZERO_STATE;
     state[x][y] = 1 << z;
-    let after = mu(state);
-    (0..4).fold(0, |image, x| {
-        image | u32::from(bits::five_bits(&after, x, z)) << (5 * x)
-    })
+    bits::slice_bits(&mu(state), z)
 }
 
 /// The rank over GF(2) of rows of bits, by elimination.

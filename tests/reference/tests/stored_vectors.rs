@@ -1,19 +1,32 @@
 //! The vectors' text: its form, and its equality with the stored file; the same
-//! equality of the printed constants, and of the round log and its verdict. The
-//! round and the lanes that the definitions are held to.
+//! equality of the printed constants, of the round log and its verdict, and of
+//! the starts in a C program. The round and the lanes that the definitions are
+//! held to.
 
 use std::fs;
 use std::path::Path;
 
 use reference::generators;
 use reference::permutation::{bits, words, State, STARTING_WORDS, ZERO_STATE};
-use reference::round_log::{check_log_by, stored_log};
+use reference::round_log::{check_log_by, state_bytes, state_of, stored_log};
+use reference::rounds_back;
 use reference::sealing::{open, Variant};
 use reference::vectors::{permutation_vectors, sealing_vectors, vector_state};
 
 /// The folder of the crates, among them the proved programs whose output is
 /// compared with a stored file.
 const CRATES: &str = concat!(env!("CARGO_MANIFEST_DIR"), "/../../crates");
+
+/// The C program that drives rounds back and forward.
+const DRIVE_ROUNDS: &str = concat!(
+    env!("CARGO_MANIFEST_DIR"),
+    "/../core_calls/c/drive_rounds.c"
+);
+
+fn text_of(path: &Path) -> String {
+    fs::read_to_string(path)
+        .unwrap_or_else(|error| panic!("cannot read {}: {error}", path.display()))
+}
 
 /// What differs first between two texts, or nothing when they are equal.
 fn first_difference(stored: &str, made: &str) -> Option<String> {
@@ -35,9 +48,7 @@ fn first_difference(stored: &str, made: &str) -> Option<String> {
 /// A program's stored output is the text made anew.
 fn check_stored(program: &str, made: &str) {
     let path = Path::new(CRATES).join(program).join("stdout");
-    let stored = fs::read_to_string(&path)
-        .unwrap_or_else(|error| panic!("cannot read {}: {error}", path.display()));
-    if let Some(difference) = first_difference(&stored, made) {
+    if let Some(difference) = first_difference(&text_of(&path), made) {
         panic!("{} differs, {difference}", path.display());
     }
 }
@@ -70,16 +81,18 @@ fn the_round_log_and_its_verdict_equal_the_stored_files() {
     check_stored("check_round_log", &verdict.line());
 }
 
-/// The words of a definition's file, which writes each as 0x and 16 digits.
-fn words_of(definition: &str) -> Vec<u64> {
-    let path = Path::new(CRATES).join(definition);
-    let text = fs::read_to_string(&path)
-        .unwrap_or_else(|error| panic!("cannot read {}: {error}", path.display()));
-    let word = |digits: &str| u64::from_str_radix(digits.get(..16)?, 16).ok();
+/// The numbers of a text, which writes each as 0x and so many digits.
+fn numbers_of(text: &str, digits: usize) -> Vec<u64> {
+    let number = |rest: &str| u64::from_str_radix(rest.get(..digits)?, 16).ok();
     text.split("0x")
         .skip(1)
-        .map(|rest| word(rest).unwrap())
+        .map(|rest| number(rest).unwrap())
         .collect()
+}
+
+/// The words of a definition's file.
+fn words_of(definition: &str) -> Vec<u64> {
+    numbers_of(&text_of(&Path::new(CRATES).join(definition)), 16)
 }
 
 /// Round 0 of the starting words, step by step: the prover holds the
@@ -93,12 +106,43 @@ fn the_worked_round_is_the_references() {
     );
 }
 
+/// The state from which two rounds reach zeros: the prover computes it too, and
+/// holds the definitions to these numbers.
+#[test]
+fn the_worked_rounds_back_are_the_references() {
+    assert_eq!(
+        words_of("rounds_back/specs/WorkedBack.antt"),
+        rounds_back::bits::inverse_rounds(ZERO_STATE, 2).as_flattened()
+    );
+}
+
 /// The lanes of Keccak-f[1600] of the zero state that no starting word is: the
 /// prover computes them too, and holds them to these numbers.
 #[test]
 fn the_other_lanes_are_the_references() {
     let lanes = generators::bits::keccak_f([0; 25]);
     assert_eq!(words_of("constants/specs/KnownLanes.antt"), lanes[..5]);
+}
+
+/// The starts of 12 rounds that the C program has, in both versions.
+#[test]
+fn the_stored_starts_are_the_references() {
+    let text = text_of(Path::new(DRIVE_ROUNDS));
+    let stored = |name: &str| {
+        let (_, array) = text.split_once(&format!("{name}[STATE] = {{")).unwrap();
+        let (bytes, _) = array.split_once('}').unwrap();
+        numbers_of(bytes, 2)
+    };
+    let counting: Vec<u8> = (0..160).collect();
+    for (name, wanted) in [
+        ("START_OF_COUNTING", state_of(&counting)),
+        ("START_OF_ZEROS", ZERO_STATE),
+    ] {
+        let start = rounds_back::bits::inverse_rounds(wanted, 12);
+        assert_eq!(stored(name), state_bytes(&start).map(u64::from), "{name}");
+        assert_eq!(rounds_back::words::inverse_rounds(wanted, 12), start);
+        assert_eq!(bits::p12(start), wanted, "{name}");
+    }
 }
 
 #[test]

@@ -12,6 +12,7 @@ use c_calls::random::{good_case, open_call, seal_call};
 use c_calls::random_strips::{calls_on_state, random_list, random_state};
 use core_calls::numbers;
 use core_calls::random_log::log_call;
+use core_calls::random_rounds::rounds_call;
 use reference::burst::Call;
 use reference::random::SplitMix64;
 use reference::sealing::Variant;
@@ -79,13 +80,19 @@ fn try_log(generator: &mut SplitMix64, what: &dyn Fn() -> String, tally: &mut Ta
     }
 }
 
+/// Rounds of a state, back or forward.
+fn try_rounds(generator: &mut SplitMix64, what: &dyn Fn() -> String, tally: &mut Tally) {
+    let (call, number) = rounds_call(generator, what);
+    tally.add(call, number);
+}
+
 /// The case of a seed. It panics where a proved call and the reference differ.
 pub fn try_case(seed: u64, tally: &mut Tally) {
     let mut generator = SplitMix64::new(seed);
     let generator = &mut generator;
     let variant = Variant::ALL[generator.below(3)];
     let what = || format!("seed {seed}");
-    let read = match generator.below(25) {
+    let read = match generator.below(26) {
         0..4 => {
             good_case(generator, variant);
             tally.add("seal", 0);
@@ -97,7 +104,8 @@ pub fn try_case(seed: u64, tally: &mut Tally) {
         15 => return try_recording(&recording_of_any_bytes(generator), &what, tally),
         16..20 => return try_strips(generator, &what, tally),
         20 => return try_log(generator, &what, tally),
-        21..24 => read_call(generator, &what),
+        21 => return try_rounds(generator, &what, tally),
+        22..25 => read_call(generator, &what),
         _ => front_call(generator, &what),
     };
     for (call, number) in ["check", "fetch", "record", "list"].into_iter().zip(read) {

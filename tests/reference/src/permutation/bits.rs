@@ -2,8 +2,11 @@
 
 use super::{pi_target, State, OFFSETS, ROUND_CONSTANTS, ZERO_STATE};
 
-/// The matrix of mu; an entry's bit i is the coefficient of a^i (003, 2.5).
-const MATRIX: [[u8; 4]; 4] = [[2, 1, 1, 1], [1, 1, 18, 2], [1, 2, 1, 18], [1, 18, 2, 1]];
+/// A matrix over GF(2^5); an entry's bit i is the coefficient of a^i.
+pub type Matrix = [[u8; 4]; 4];
+
+/// The matrix of mu (003, 2.5).
+pub const MATRIX: Matrix = [[2, 1, 1, 1], [1, 1, 18, 2], [1, 2, 1, 18], [1, 18, 2, 1]];
 
 /// a^5 + a^2 + 1, the modulus of GF(2^5) (003, 2.5).
 const MODULUS: u16 = 0b100101;
@@ -16,6 +19,13 @@ pub fn bit(state: &State, x: usize, y: usize, z: usize) -> u8 {
 /// The five bits over y at one x and z; bit y of the result is S[x][y][z].
 pub fn five_bits(state: &State, x: usize, z: usize) -> u8 {
     (0..5).fold(0, |value, y| value | (bit(state, x, y, z) << y))
+}
+
+/// The twenty bits of slice z; bit 5x + y of the result is S[x][y][z].
+pub fn slice_bits(state: &State, z: usize) -> u32 {
+    (0..4).fold(0, |slice, x| {
+        slice | u32::from(five_bits(state, x, z)) << (5 * x)
+    })
 }
 
 /// Xors five bits over y into the state at one x and z.
@@ -41,19 +51,24 @@ pub fn multiply(left: u8, right: u8) -> u8 {
     product as u8
 }
 
-/// mu: each slice, as four elements of GF(2^5), is multiplied by the matrix.
-pub fn mu(state: State) -> State {
+/// Each slice, as four elements of GF(2^5), is multiplied by a matrix.
+pub fn multiply_slices(matrix: Matrix, state: State) -> State {
     let mut next = ZERO_STATE;
     for z in 0..64 {
         for x in 0..4 {
             let mut sum = 0;
             for k in 0..4 {
-                sum ^= multiply(MATRIX[x][k], five_bits(&state, k, z));
+                sum ^= multiply(matrix[x][k], five_bits(&state, k, z));
             }
             xor_five_bits(&mut next, x, z, sum);
         }
     }
     next
+}
+
+/// mu: each slice, as four elements of GF(2^5), is multiplied by the matrix.
+pub fn mu(state: State) -> State {
+    multiply_slices(MATRIX, state)
 }
 
 /// rho: bit z of word (x, y) moves to (z + offset) mod 64.
@@ -98,15 +113,20 @@ pub fn sbox(input: u8) -> u8 {
     output
 }
 
-/// psi: the S-box on the five bits over y, for each x and z.
-pub fn psi(state: State) -> State {
+/// A map of five bits on those over y, for each x and z.
+pub fn map_five_bits(map: impl Fn(u8) -> u8, state: State) -> State {
     let mut next = ZERO_STATE;
     for x in 0..4 {
         for z in 0..64 {
-            xor_five_bits(&mut next, x, z, sbox(five_bits(&state, x, z)));
+            xor_five_bits(&mut next, x, z, map(five_bits(&state, x, z)));
         }
     }
     next
+}
+
+/// psi: the S-box on the five bits over y, for each x and z.
+pub fn psi(state: State) -> State {
+    map_five_bits(sbox, state)
 }
 
 /// kappa: S[0][0] is xored with the constant of the round.
