@@ -24,6 +24,7 @@ $main bench/p6.c build/permutation.o $lib/libpermutation_bench.a -o build/p6
 $main bench/sealing.c build/icepole_plain.o build/icepole_shaped.o $lib/libicepole_c.a $lib/libicepole_bench.a -o build/sealing
 $main bench/strips.c $lib/libicepole_c.a -o build/strips
 $main bench/round_log.c $lib/libcore_c.a $lib/libpermutation_bench.a -o build/round_log_bench
+$main bench/rounds_back.c $lib/libcore_c.a -o build/rounds_back_bench
 $main bench/burst.c $lib/libburst_c.a $lib/libicepole_c.a -o build/burst
 
 # What callgrind counts: instructions, the same in every run.
@@ -44,6 +45,10 @@ block() {
 round_log() {
     echo $((($(count build/round_log_bench 1001) - $(count build/round_log_bench 1)) / 1000))
 }
+# Of twelve rounds, back or forward.
+twelve() {
+    echo $((($(count build/rounds_back_bench "$1" 1001) - $(count build/rounds_back_bench "$1" 1)) / 1000))
+}
 # A row of the page: name, proved, what it is held against, the most that was wanted.
 instructions() {
     awk -v name="$1" -v proved="$2" -v against="$3" -v most="$4" 'BEGIN {
@@ -59,6 +64,9 @@ counted() {
 }
 counted_log() {
     ! command -v valgrind >/dev/null || instructions "of a log of 13 states" "$(round_log)" "$((2 * $(p6 proved)))" 4100
+}
+counted_rounds() {
+    ! command -v valgrind >/dev/null || instructions "of twelve rounds" "$(twelve back)" "$(twelve forward)" 6200
 }
 machine() {
     echo "Written by \`make bench\` on $(date -u +%Y-%m-%d)."
@@ -77,12 +85,14 @@ build/p6 >build/p6.md
 build/sealing >build/sealing.md
 build/strips >build/strips.md
 build/round_log_bench >build/round_log.md
+build/rounds_back_bench >build/rounds_back.md
 build/burst largest >build/largest.md
 build/burst growth >build/growth.md
 awk -f bench/plot.awk build/growth.md >build/benchmarks.svg
 sh bench/openssl.sh >build/openssl.md
 counted >build/counted.md
 counted_log >build/counted_log.md
+counted_rounds >build/counted_rounds.md
 {
     machine
     printf '\n### Against C\n\n| | proved | plain C | proved / plain C | wanted |\n|---|---|---|---|---|\n'
@@ -95,6 +105,8 @@ counted_log >build/counted_log.md
     cat build/strips.md
     printf '\n### Round logs\n\n| | judged | twelve rounds of the proved permutation (two P6) | judged / rounds | wanted |\n|---|---|---|---|---|\n'
     cat build/round_log.md build/counted_log.md
+    printf '\n### Rounds back\n\n| | back | forward | back / forward | wanted |\n|---|---|---|---|---|\n'
+    cat build/rounds_back.md build/counted_rounds.md
     printf '\n### The largest file\n\n'
     cat build/largest.md
     printf '\n### How cost grows\n\n![Two plots: time a byte by size of picture, and time of a burst by number of pictures](benchmarks.svg)\n\n'

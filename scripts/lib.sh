@@ -32,4 +32,4 @@ rm -rf $folder
 mkdir -p $folder
 gather icepole "ICEPOLE-128, 128a and 256a: authenticated encryption of whole messages and of strips"
 gather burst "Burst files of trail cameras: recording, checking, reading back and listing"
-gather core "For testing a hardware core of ICEPOLE: the log of its rounds judged"
+gather core "For testing a hardware core of ICEPOLE: the log of its rounds judged, and the start of a chosen state"

@@ -179,6 +179,13 @@ round_log_counted() {
     counted 1000 "the log of a P12" 4100 1001 1 build/round_log_bench
 }
 
+# Of twelve rounds in a call, back or forward.
+rounds_counted() {
+    flags="-std=c11 -D_POSIX_C_SOURCE=200809L -Wall -Wextra -Werror -O2"
+    gcc $flags bench/rounds_back.c target/staticlib/libcore_c.a -o build/rounds_back_bench || return 1
+    counted 1000 "twelve rounds back" 6200 1001 1 build/rounds_back_bench back && counted 1000 "twelve rounds forward" 3900 1001 1 build/rounds_back_bench forward
+}
+
 # No division in compiled code, neither as an instruction nor as a call of one: its time may depend on what is divided, and the source takes bytes of secrets
 # by division (docs/PROOFS.md, "What is trusted").
 no_division() {
@@ -220,6 +227,15 @@ round_log() {
     [ "$(dd if="$log" bs=2079 count=1 2>/dev/null | build/round_log)" = "refused 19" ]
 }
 
+# The example of a chosen state: the start from which twelve rounds reach zeros is the stored one, and what is no state, or too many rounds, is refused.
+chosen_state() {
+    $c -Iinclude examples/chosen_state.c target/staticlib/libcore_c.a -o build/chosen_state || return 1
+    yes 0000000000000000 | head -n 20 >build/wanted.hex
+    build/chosen_state 12 <build/wanted.hex | diff examples/chosen_state.out - || return 1
+    build/chosen_state 0 <build/wanted.hex | diff build/wanted.hex - || return 1
+    ! build/chosen_state 13 <build/wanted.hex 2>/dev/null && ! build/chosen_state 12 </dev/null 2>/dev/null
+}
+
 # The demonstration, with the libraries that make lib has built.
 demo() {
     make -s -o lib demo >build/demo.log 2>&1 || { tail -n 30 build/demo.log; return 1; }
@@ -242,11 +258,14 @@ step "make lib" lib
 step "the C program of sealing" c_program tests/c_calls/c/roundtrip.c libicepole_c.a
 step "the C program of bursts" c_program tests/burst_calls/c/record_and_read.c libburst_c.a
 step "the C program of round logs" c_program tests/core_calls/c/check_logs.c libcore_c.a
+step "the C program of rounds" c_program tests/core_calls/c/drive_rounds.c libcore_c.a
 step "the example" example
 step "the example on a full card" full_card
+step "the example of a chosen state" chosen_state
 step "the C program of sealing, sanitized" c_sanitized tests/c_calls/c/roundtrip.c libicepole_c.a
 step "the C program of bursts, sanitized" c_sanitized tests/burst_calls/c/record_and_read.c libburst_c.a
 step "the C program of round logs, sanitized" c_sanitized tests/core_calls/c/check_logs.c libcore_c.a
+step "the C program of rounds, sanitized" c_sanitized tests/core_calls/c/drive_rounds.c libcore_c.a
 step "the example, sanitized" c_sanitized examples/firmware.c libburst_c.a build/card.burst
 step "icepole from build/lib" moved_folder tests/c_calls/c/roundtrip.c icepole
 step "burst from build/lib" moved_folder examples/firmware.c burst build/card.burst
@@ -255,6 +274,7 @@ step "instructions of a sealed block" block icepole128_seal 1850
 step "instructions of an opened block" block icepole128_open 3850
 step "instructions of a P6" p6
 step "instructions of a round log" round_log_counted
+step "instructions of rounds back and forward" rounds_counted
 step "no division in the libraries" no_division target/staticlib/libicepole_c.a target/staticlib/libburst_c.a target/staticlib/libcore_c.a
 step "and one that is there is seen" division_seen
 rust_tests tests
