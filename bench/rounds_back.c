@@ -5,10 +5,11 @@
  */
 #include <string.h>
 #include "../include/core.h"
-#include "round.h"
 #include "timing.h"
 
 enum { RUNS = 1001, TIMES = 500, ROUNDS = CORE_MAX_ROUNDS };
+
+typedef uint64_t u64;
 
 typedef uint32_t rounds_call(uint8_t *state, size_t state_len, uint32_t rounds);
 
@@ -35,8 +36,8 @@ int main(int argc, char **argv)
     static double back[RUNS], forward[RUNS], ratio[RUNS];
     uint8_t before[sizeof state];
     u64 done = 0;
-    for (int w = 0; w < 20; w++)
-        memcpy(state + 8 * w, &start[w % 4][w / 4], 8);
+    for (size_t i = 0; i < sizeof state; i++)
+        state[i] = (uint8_t)i;
     if (argc == 3) {
         u64 times = strtoull(argv[2], NULL, 10);
         return run(strcmp(argv[1], "back") == 0 ? icepole_rounds_back : icepole_rounds_forward, times) != times;

@@ -1,4 +1,5 @@
--- What private functions do on whole words, 64 bit positions at once. No public contract and no claim names this file: `proofs/` leads from it to `Permutation`.
+-- What private functions, and two internal ones (`sum`, `rotate_column`), do on whole words, 64 bit positions at once. No other public contract and no claim names this
+-- file: `proofs/` leads from it to `Permutation`.
 -- Assumes nothing.
 use mathlib.Core.List.{List, [], _∷_}
 use Prim.Native.Nat.{ℕ}

@@ -231,7 +231,7 @@ fn round(s: State, constant: &[u64; 12], number: usize) -> [State; 5]
 }
 
 // "P is an iterated permutation and a number of rounds is a parameter of the permutation" (003, 2.5): the first n rounds, in place. The table is copied once. This
-// is the only call of round, for speed. Internal, as rotate_column and kappa are: only crates of ours call it.
+// is the only call of round, for speed. Internal, as sum, rotate_column and kappa are: only crates of ours call it.
 pub fn rounds(s: &mut State, n: usize)
     requires { ⌜ n ≤ 12 ⌝ }
     ensures { λ _. ⌜ now (s .exit) ≡ P n (now (s .entry)) ⌝ }
@@ -284,13 +284,13 @@ pub fn round_at(s: State, constant: &[u64; 12], number: usize) -> State
     requires { ⌜ (number < 12) × (now constant ≡ constants) ⌝ }
     ensures { λ r. ⌜ r ≡ R s number ⌝ }
 {
-    let after_mu = mu(s);
-    let after_rho = rho(after_mu);
-    let after_pi = pi(after_rho);
-    let column1 = sbox_by_differences(after_pi[1]);
-    let column3 = sbox_by_differences(after_pi[3]);
-    let column2 = sbox_by_differences(after_pi[2]);
-    let column0 = sbox_by_differences(after_pi[0]);
+    let mixed = mu(s);
+    let turned = rho(mixed);
+    let moved = pi(turned);
+    let column1 = sbox_by_differences(moved[1]);
+    let column3 = sbox_by_differences(moved[3]);
+    let column2 = sbox_by_differences(moved[2]);
+    let column0 = sbox_by_differences(moved[0]);
     kappa([column0, column1, column2, column3], constant, number)
 }
 
