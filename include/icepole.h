@@ -6,9 +6,9 @@
  *
  * Machines. The library is for x86-64 Linux, as the Rattle kit builds it, and for no other machine or system.
  *
- * Slices. Every slice is a pointer and a length in bytes. The pointers are valid for their lengths, and out, info and state overlap no
- * other slice; the proofs assume it. Slices that are only read may overlap. NULL is not allowed, not even with length 0: an empty slice is
- * any other pointer with length 0. All numbers are little-endian.
+ * Slices. Every slice is a pointer and a length in bytes. The pointers are valid for their lengths, and out, buffer, info and state overlap
+ * no other slice; the proofs assume it. Slices that are only read may overlap. NULL is not allowed, not even with length 0: an empty slice
+ * is any other pointer with length 0. All numbers are little-endian.
  *
  * During a call nobody else changes what is lent: no other thread or process, no interrupt, no DMA, and no mapping of a file that
  * somebody writes. The proofs assume this too. A sealed message that changes while it is opened may be let through though no tag covers
@@ -37,9 +37,9 @@
 extern "C" {
 #endif
 
-/* The refusal numbers. Sealing tests them in the order 1, 2, 3, 4, 5; opening in the order 1, 2, 4, 6, 5, 7; start in the order 1, 2, 3,
- * 4, 5; strip in the order 14, 4, 5; end in the order 14, 5. A state slice that is too short gets 5: in start after all others, in strip
- * and end before them, since there is no state to judge. */
+/* The refusal numbers. Sealing tests them in the order 1, 2, 3, 4, 5; opening, in place too, in the order 1, 2, 4, 6, 5, 7; start in the
+ * order 1, 2, 3, 4, 5; strip in the order 14, 4, 5; end in the order 14, 5. A state slice that is too short gets 5: in start after all
+ * others, in strip and end before them, since there is no state to judge. */
 enum icepole_refusal {
     ICEPOLE_DONE = 0,
     ICEPOLE_KEY_LENGTH = 1,       /* the key has another length than the variant's */
@@ -47,7 +47,7 @@ enum icepole_refusal {
     ICEPOLE_SECRET_LENGTH = 3,    /* the secret number has another length than the variant's */
     ICEPOLE_DATA_TOO_LONG = 4,    /* associated data (both parts together) or message is above ICEPOLE_MAX_BYTES; so too for the
                                    * message that a sealed message implies, or that strips add up to */
-    ICEPOLE_OUTPUT_TOO_SHORT = 5, /* out, in opening info, or for strips state, is too short */
+    ICEPOLE_OUTPUT_TOO_SHORT = 5, /* out, in opening info, or for strips state, is too short; in opening in place info alone */
     ICEPOLE_SEALED_TOO_SHORT = 6, /* the sealed message is shorter than the sealed secret number and the tag */
     ICEPOLE_TAG_DIFFERS = 7,      /* the tag differs: not sealed under this key, nonce and associated data */
     ICEPOLE_STRIP_STATE = 14      /* the strip state is finished, or its count is above ICEPOLE_MAX_BYTES */
@@ -111,6 +111,28 @@ uint32_t icepole256a_open(const uint8_t *key, size_t key_len, const uint8_t *non
                           const uint8_t *ad1, size_t ad1_len, const uint8_t *ad2, size_t ad2_len,
                           const uint8_t *sealed, size_t sealed_len, uint8_t *out, size_t out_len,
                           uint8_t *info, size_t info_len);
+
+/*
+ * Opening in place, for a unit with memory for one message: all of buffer is the sealed message. Where the tag agrees, writes the message,
+ * buffer_len - OVERHEAD bytes, to the front of buffer, over its own ciphertext, and the message's length and the secret number to the
+ * front of info, as opening does. The last OVERHEAD bytes of buffer stay as they were, and so do later bytes of info. Nothing is written
+ * before the tag was found to agree: a refused call leaves the sealed message whole.
+ *
+ * The number, the message and what goes into info are those of opening with an out that is long enough. A message is shorter than its
+ * sealed message, so buffer always has room for it: 5 is for info alone.
+ *
+ * The sealed message is written over: keep it elsewhere, as on the card, where it is wanted again. Beside the slices a call needs a few
+ * hundred bytes of stack, for a long message no more than for a short one.
+ */
+uint32_t icepole128_open_in_place(const uint8_t *key, size_t key_len, const uint8_t *nonce, size_t nonce_len,
+                                  const uint8_t *ad1, size_t ad1_len, const uint8_t *ad2, size_t ad2_len,
+                                  uint8_t *buffer, size_t buffer_len, uint8_t *info, size_t info_len);
+uint32_t icepole128a_open_in_place(const uint8_t *key, size_t key_len, const uint8_t *nonce, size_t nonce_len,
+                                   const uint8_t *ad1, size_t ad1_len, const uint8_t *ad2, size_t ad2_len,
+                                   uint8_t *buffer, size_t buffer_len, uint8_t *info, size_t info_len);
+uint32_t icepole256a_open_in_place(const uint8_t *key, size_t key_len, const uint8_t *nonce, size_t nonce_len,
+                                   const uint8_t *ad1, size_t ad1_len, const uint8_t *ad2, size_t ad2_len,
+                                   uint8_t *buffer, size_t buffer_len, uint8_t *info, size_t info_len);
 
 /*
  * A message in strips, under ICEPOLE-128: start, then any number of strips, then end. What they write, joined in order, is what

@@ -4,12 +4,12 @@ use mathlib.Core.Path.{_≡_, refl, sym, ap, ap₂, _∙_}
 use mathlib.Core.List.{[], _++_, append-nil}
 use Prim.Native.Nat.{ℕ, _<_, _+_, _-_, _≤_}
 use native.Mathlib.Omega.{arith}
-use lib.ListN.{length, take, drop, length-drop}
+use lib.ListN.{length, take, drop, length-drop, length-take}
 use lib.Seq.{length-take-le, take-at, drop-at, drop-append-add, drop-drop, take-all, take-append-le, drop-append-le, take-add}
 use Rattle.bytes_le.specs.Bytes.{Bytes, putBytes}
 use Rattle.permutation.specs.State.{State}
 use Rattle.state_bytes.specs.StateBytes.{bytesOf}
-use Rattle.bytes_le.proofs.Laws.{length-part, part-part, put-none, put-put}
+use Rattle.bytes_le.proofs.Laws.{behind-put, length-part, part-part, put-none, put-put, take-put}
 use Rattle.state_bytes.proofs.Lengths.{length-bytes}
 use Rattle.blocks.specs.Sealing.{_⊕₈_, absorb, absorbAssociated, absorbMessage, decrypt, encrypt, finish, xorWith}
 use Rattle.blocks.proofs.Blocks.{associated-last, associated-more, checked-last, checked-more, decrypt-last, decrypt-more, encrypt-last, encrypt-more}
@@ -159,6 +159,16 @@ module _ {c d : Bytes} {i : ℕ → ℕ} {n : ℕ} (a : Part c i n d) (at : ℕ)
         put-more (n - at) [] h (omega arith)
         (f .last (bytesOf s) (drop at d) (length-bytes s) (last-left r h) ∙ ap (λ (b : Bytes). bytesOf s ⊕₈ b) (sym all-left) ∙ sym (append-nil _)) eo .1
         ∙ ap (putBytes o to) (take-all (at + (n - at)) (F (bytesOf s₀) d) (omega arith))
+
+-- ---- in place
+-- b₁ is b with at bytes written at its front. A block of it that begins behind them is copied: it is still that of b
+pub copied : (block b z : Bytes) (at i k j : ℕ) {b₁ block₁ : Bytes} → b₁ ≡ putBytes b 0 (take at z) → block₁ ≡ putBytes block 0 (take j (drop i b₁)) → j ≡ k
+    → at ≤ i → i + k ≤ length b → k ≤ length block → take k block₁ ≡ take k (drop i b)
+copied block b z at i k j {b₁} {block₁} eb e ej h hb hk =
+    let l : length (take at z) ≤ at = rw length-take (omega arith) in
+    let d : drop i b₁ ≡ drop i b = ap (drop i) eb ∙ behind-put b 0 (take at z) i (omega arith) (omega arith) in
+    ap (take k) (e ∙ ap₂ (λ (j : ℕ) (d : Bytes). putBytes block 0 (take j d)) ej d)
+    ∙ take-put block 0 (take k (drop i b)) k (rw (length-part b i k hb) (omega arith)) (omega arith)
 
 -- a block of two parts that lies in one of them
 pub in-first : (f g : Bytes) (at r : ℕ) → at + r ≤ length f → take r (drop at (f ++ g)) ≡ take r (drop at f)

@@ -1,6 +1,7 @@
 // The blocks of ICEPOLE (003, 2.6 to 2.9): words and bytes of a block, runs of blocks, the keyed state, the tag, and whole messages whose sizes fit.
 // Every function here is internal: only crates of ours call them, and each has tested before what a `requires` here wants. The calls that test are those of the
 // crates `icepole` and `strips`. A state is worked on in place; the contracts speak of its bytes.
+use state_bytes::STATE_BYTES;
 ghost use mathlib.Core.Path.{_≡_};
 ghost use mathlib.Core.List.{_++_};
 ghost use Prim.Native.Nat.{_+_, _*_, _^_, _%_, _≤_, _<_};
@@ -359,6 +360,25 @@ pub fn decrypt_message(s: &mut State, n: usize, c: &[u8], from: usize, l: usize,
         at += r;
     }
     decrypt_bytes(s, c, from + at, l - at, out, at);
+}
+
+// The message of l bytes of ciphertext from index from on is put to the front of the buffer where they stand. A block is copied out before its message is put, and
+// what is put ends at or before the next block. What is left of the state is of no use.
+pub fn decrypt_in_place(s: &mut State, n: usize, b: &mut [u8], from: usize, l: usize)
+    requires { ⌜ (0 < n) × (n < stateWords) × (from + l ≤ length (now b)) ⌝ }
+    ensures { λ _. ⌜ now (b .exit) ≡ putBytes (now (b .entry)) 0 (decrypt (8 * n) (bytesOf (now (s .entry))) (take l (drop from (now (b .entry))))) ⌝ }
+{
+    let r = 8 * n;
+    let mut block = [0u8; STATE_BYTES];
+    let mut at: usize = 0;
+    while r < l - at {
+        bytes_le::put_bytes(&mut block, 0, &b[from + at..from + at + r]);
+        decrypt_full(s, &block, 0, n, b, at);
+        finish(s, r, 1);
+        at += r;
+    }
+    bytes_le::put_bytes(&mut block, 0, &b[from + at..from + l]);
+    decrypt_bytes(s, &block, 0, l - at, b, at);
 }
 
 // ---- whole messages, whose sizes fit

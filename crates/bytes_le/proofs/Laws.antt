@@ -113,6 +113,18 @@ drop-put l n vs h =
     ap (take (length vs)) (drop-at (take n l) (vs ++ drop (n + length vs) l) n (length-take-le n l h))
     ∙ take-at vs (drop (n + length vs) l) (length vs) refl
 
+-- what stands behind what is put stays
+pub behind-put : (l : Bytes) (at : ℕ) (vs : Bytes) (n : ℕ) → at + length vs ≤ n → at ≤ length l → drop n (putBytes l at vs) ≡ drop n l
+unfolding putBytes
+behind-put l at vs n h ha =
+    let b : Bytes = take at l ++ vs in
+    let e : length b ≡ at + length vs = simp (length-append, length-take-le at l ha) in
+    let f : n ≡ length b + (n - length b) = omega arith in
+    let g : at + length vs + (n - length b) ≡ n = omega arith in
+    ap₂ drop f (sym (append-assoc (take at l) vs (drop (at + length vs) l)))
+    ∙ drop-append-add b (drop (at + length vs) l) (n - length b)
+    ∙ drop-drop (n - length b) (at + length vs) l ∙ ap (λ (k : ℕ). drop k l) g
+
 -- ---- put into one of two lists
 pub put-left : (a b : Bytes) (i : ℕ) (vs : Bytes) → i + length vs ≤ length a → putBytes (a ++ b) i vs ≡ putBytes a i vs ++ b
 unfolding putBytes

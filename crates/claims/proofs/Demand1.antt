@@ -1,7 +1,7 @@
 -- Demand 1: each order by its tests, and each refused call by its number.
 -- Assumes nothing.
 use mathlib.Core.Bool.{Bool, true, false, cond, not, _||_, _&&_}
-use mathlib.Core.List.{List, [], _∷_}
+use mathlib.Core.List.{List, [], _∷_, _++_}
 use mathlib.Core.Logic.{_⊎_, inl, inr, ⊎-elim, _≢_}
 use mathlib.Core.Path.{_≡_, refl, sym, ap, subst, _∙_}
 use Prim.Native.Nat.{ℕ, suc, _+_, _-_, _≤_, _<_}
@@ -50,8 +50,8 @@ use Rattle.round_log.specs.declared.Verdict.{Verdict}
 use Rattle.round_log.specs.declared.Verdict.the-variants.{Agrees, Differs, Refused}
 use Rattle.round_log.proofs.Verdicts.{Says, says}
 use Rattle.claims.specs.RoundLogs.{LogOf}
-use Rattle.claims.specs.Demand1.{Refusal, _on_, FirstOf, SealNumber, Seal, orderOfOpen, OpenNumber, NoRoomToOpen, Verify, Open, OpenCall, orderOfStart}
-use Rattle.claims.specs.Demand1.{StartNumber, Start, orderOfStrip, Strip, orderOfEnd, End, StartCall, StripCall, EndCall, Begin, Keep, Drop, Close}
+use Rattle.claims.specs.Demand1.{Refusal, _on_, FirstOf, SealNumber, Seal, orderToOpen, orderOfOpen, OpenNumber, NoRoomToOpen, Verify, Open, OpenCall}
+use Rattle.claims.specs.Demand1.{OpenInPlace, OpenInPlaceCall, orderOfStart, StartNumber, Start, orderOfStrip, Strip, orderOfEnd, End, StartCall, StripCall, EndCall, Begin, Keep, Drop, Close}
 use Rattle.claims.specs.Demand1.{InList, orderOfCheck, Check, orderAtPlace, Record, NoRoomToFetch, Fetch, CheckCall, FetchCall, Print, CheckLog, Drive, RunRounds, Demand1}
 use Rattle.claims.proofs.Orders.{Tells, differs, less, at-most, fails, holds, either, first, row, by-tests, NoZero, behind, then-tests}
 
@@ -97,6 +97,19 @@ opening v k n a c fits agrees noRoom tagDiffers r t =
     ∷ row 7 t
     ∷ [])
 
+-- the same where the answer always fits: there is no 5
+opening-fits : (v : Variant) (k n a c : ℕ) (agrees : Bool)
+    → FirstOf (openNumber (sizes v) k n a c true agrees) (orderToOpen v k n a c ++ ((7 on (agrees ≡ false)) ∷ []))
+unfolding openNumber
+opening-fits v k n a c agrees =
+    by-tests
+    (row 1 (differs k (sizes v .key))
+    ∷ row 2 (differs n (sizes v .nonce))
+    ∷ row 4 (either (less maxLength a) (implied c (sizes v .secret + tagLength)))
+    ∷ row 6 (less c (sizes v .secret + tagLength))
+    ∷ row 7 (fails agrees)
+    ∷ [])
+
 never : Tells (not true) ⊥
 never = record { yes = λ h. clash true refl (sym h); no′ = λ _ x. x }
 
@@ -114,6 +127,12 @@ one-fails : (a b : Bool) (c d : Type 0) → Tells (not a) c → Tells (not b) d 
 one-fails true b c d s t = record { yes = λ h. inr (t .yes h); no′ = λ h. elim [ inl x ↦ s .no′ refl x | inr y ↦ t .no′ h y ] }
 one-fails false b c d s t = record { yes = λ _. inl (s .yes refl); no′ = λ h _. clash true refl h }
 
+-- a further slice without room
+short : (v : Variant) (info : Bytes) → Tells (not (leb (infoLength v) (length info))) (length info < infoLength v)
+short v info =
+    let t = at-most (infoLength v) (length info) in
+    record { yes = λ h. leb-false _ _ (not-true _ h); no′ = λ h g. let l = t .yes (not-false _ h) in omega arith }
+
 open-number : OpenNumber
 open-number v k n a c fits = opening v k n a c fits true (fits ≡ false) ⊥ (fails fits) never
 
@@ -124,9 +143,30 @@ module _ (v : Variant) (key nonce ad c : Bytes) where
   verifies : Verify v key nonce ad c
   unfolding openAnswer openRefusal
   verifies = record {
-    order = opening v (length key) (length nonce) (length ad) (length c) true tag ⊥ (tag ≡ false) never (fails tag);
+    order = opening-fits v (length key) (length nonce) (length ad) (length c) tag;
     refused = λ h. let z = ne-eqb _ 0 h in simp z;
   }
+
+  pub opens-in-place : OpenInPlace v key nonce ad c
+  unfolding openAnswer openOutput openRefusal
+  opens-in-place = record {
+    order = opening-fits v (length key) (length nonce) (length ad) (length c) tag;
+    refused = λ h. let z = ne-eqb _ 0 h in (simp z, simp z);
+  }
+
+  -- the output is the sealed message itself: it has room
+  module _ (info : Bytes) where
+    short-alone : Tells (not (fitsBoth v key nonce ad c c info)) (length info < infoLength v)
+    short-alone =
+        let t = one-fails (leb (infoLength v) (length info)) (fitsOutput v c c) (length info < infoLength v) (NoRoomToOpen v c c) (short v info) (narrow v c c) in
+        record { yes = λ h. ⊎-elim (λ (x : length info < infoLength v). x) (λ (x : NoRoomToOpen v c c). absurd (omega arith)) (t .yes h); no′ = λ h x. t .no′ h (inl x) }
+
+    opens-in-place-in-c : OpenInPlaceCall v key nonce ad c info
+    unfolding openAnswer openOutput openRefusal openCallInfo
+    opens-in-place-in-c = record {
+      order = opening v (length key) (length nonce) (length ad) (length c) (fitsBoth v key nonce ad c c info) tag _ (tag ≡ false) short-alone (fails tag);
+      refused = λ h. let z = ne-eqb _ 0 h in (simp z, simp z);
+    }
 
   module _ (out : Bytes) where
     opens : Open v key nonce ad c out
@@ -137,17 +177,12 @@ module _ (v : Variant) (key nonce ad c : Bytes) where
     }
 
     module _ (info : Bytes) where
-      short : Tells (not (leb (infoLength v) (length info))) (length info < infoLength v)
-      short =
-          let t = at-most (infoLength v) (length info) in
-          record { yes = λ h. leb-false _ _ (not-true _ h); no′ = λ h g. let l = t .yes (not-false _ h) in omega arith }
-
       opens-in-c : OpenCall v key nonce ad c out info
       unfolding openAnswer openOutput openRefusal openCallInfo
       opens-in-c = record {
         order =
             opening v (length key) (length nonce) (length ad) (length c) (fitsBoth v key nonce ad c out info) tag _ (tag ≡ false)
-            (one-fails (leb (infoLength v) (length info)) (fitsOutput v c out) (length info < infoLength v) (NoRoomToOpen v c out) short (narrow v c out))
+            (one-fails (leb (infoLength v) (length info)) (fitsOutput v c out) (length info < infoLength v) (NoRoomToOpen v c out) (short v info) (narrow v c out))
             (fails tag);
         refused = λ h. let z = ne-eqb _ 0 h in (simp z, simp z);
       }
@@ -463,6 +498,8 @@ demand1 = record {
   verifies = verifies;
   opens = opens;
   opens-in-c = opens-in-c;
+  opens-in-place = opens-in-place;
+  opens-in-place-in-c = opens-in-place-in-c;
   start-number = start-number;
   starts = starts;
   strips = strips;

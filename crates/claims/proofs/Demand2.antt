@@ -10,7 +10,7 @@ use lib.ListN.{length, take, replicate}
 use mathlib.Core.List.{[], _++_}
 use Rattle.bytes_le.specs.Bytes.{Bytes, le, putBytes, same}
 use Rattle.bytes_le.proofs.Laws.{take-put}
-use Rattle.icepole.specs.Answers.{fitsOutput, openAnswer, openLength, openNumber, openOutput, openRefusal, openedAnswer, sealAnswer, sealOutput, sealRefusal, tagAgrees, unless}
+use Rattle.icepole.specs.Answers.{fitsOutput, openAnswer, openLength, openNumber, openOutput, openRefusal, openedAnswer, sealAnswer, sealOutput, sealRefusal, tagAgrees}
 use Rattle.blocks.specs.Bounds.{Bounded}
 use Rattle.blocks.specs.Sealing.{expectedTag, messageOf, sealed, secretOf, tagPart}
 use Rattle.icepole.specs.Variants.{sizes}
@@ -20,7 +20,7 @@ use Rattle.icepole.proofs.Bounds.{bounded}
 use Rattle.icepole.proofs.Numbers.{OpenFits, open-0, open-fits, seal-0}
 use Rattle.icepole.proofs.OpenedBytes.{message-bytes, secret-bytes}
 use Rattle.blocks.proofs.Opening.{length-message-of, length-sealed, length-secret-of, message-of-sealed, opened, seal-open, secret-of-sealed, tag-of-sealed}
-use Rattle.icepole_c.specs.Calls.{openCallInfo, openCallOutput, openCallRefusal, fitsBoth}
+use Rattle.icepole_c.specs.Calls.{openCallInfo, openCallOutput, openCallRefusal, fitsBoth, infoAfter}
 use Rattle.claims.specs.Demand2.{Demand2, GenuineMessage, Within, openDone, sealDone}
 
 module _ (v : Variant) where
@@ -91,7 +91,7 @@ module _ (v : Variant) where
         take-put (replicate 16 0) 0 s (sizes v .secret) (omega arith) (omega arith) in (
           ap (λ (x : Opened). x .refusal) (d .0),
           d .1 out,
-          ap (λ (x : Opened). unless (x .refusal) info (putBytes info 0 (le 8 (x .length) ++ take (sizes v .secret) (x .secret)))) (d .0)
+          ap (λ (x : Opened). infoAfter x (sizes v .secret) info) (d .0)
               ∙ ap (λ (x : Bytes). putBytes info 0 (le 8 (length m) ++ x)) q,
         )
 
@@ -135,7 +135,7 @@ module _ (v : Variant) where
           bytes = λ hc. (secret-bytes (sizes v) k n a c hc, message-bytes (sizes v) k n a c hc);
         }
 
-  withheld : (k n a c : Bytes) (fits : Bool) → (openRefusal v k n a c fits ≡ 0 → ⊥)
+  pub withheld : (k n a c : Bytes) (fits : Bool) → (openRefusal v k n a c fits ≡ 0 → ⊥)
       → (openAnswer v k n a c fits ≡ openedAnswer (openRefusal v k n a c fits) 0 []) × ((out : Bytes) → openOutput v k n a c fits out ≡ out)
   unfolding openAnswer openOutput
   withheld k n a c fits e = let z = ne-eqb (openRefusal v k n a c fits) 0 e in (simp z, λ out. simp z)

@@ -7,6 +7,7 @@ pub mod PaperBits
 pub mod Orders
 pub mod Demand1
 pub mod Demand2
+pub mod InPlace
 pub mod StripLists
 pub mod StripCallLists
 pub mod Reading

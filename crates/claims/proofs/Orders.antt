@@ -65,9 +65,18 @@ pub by-tests : (rs : List Row) → FirstOf (numberBy rs) (orderBy rs)
 by-tests [] = refl
 by-tests (r ∷ rs) = first (r .test) (r .number) (numberBy rs) (r .condition) (orderBy rs) (r .tells) (by-tests rs)
 
+-- k is no number of an order
+abbrev pub Without : ℕ → List Refusal → Type 0
+Without k [] = Unit {0}
+Without k (r ∷ rs) = (r .number ≢ k) × Without k rs
+
+pub not-given : (k n : ℕ) (rs : List Refusal) → 0 ≢ k → Without k rs → FirstOf n rs → n ≢ k
+not-given k n [] z w f e = z (sym f ∙ e)
+not-given k n (r ∷ rs) z w (inl f) e = w .0 (sym (f .1) ∙ e)
+not-given k n (r ∷ rs) z w (inr f) e = not-given k n rs z (w .1) (f .1) e
+
 abbrev pub NoZero : List Refusal → Type 0
-NoZero [] = Unit {0}
-NoZero (r ∷ rs) = (r .number ≢ 0) × NoZero rs
+NoZero = Without 0
 
 -- the number of one order, and where that is 0 of another behind it
 pub behind : (rs ss : List Refusal) (m n : ℕ) → NoZero rs → FirstOf m rs → (m ≡ 0 → FirstOf n ss) → FirstOf (cond (not (eqb m 0)) m n) (rs ++ ss)

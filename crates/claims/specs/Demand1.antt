@@ -48,6 +48,7 @@ use Rattle.rounds_back.specs.Driven.{driven}
 use Rattle.rounds_back.specs.declared.Direction.{Direction}
 use Rattle.core_c.specs.Calls.{callRefusal, callAgrees, callRound, roundsRefusal, afterRounds}
 use Rattle.claims.specs.RoundLogs.{LogOf}
+use Rattle.claims.specs.InPlace.{inPlaceAnswer, inPlaceBuffer}
 
 -- ---- orders
 -- a number, and the condition on which it is given
@@ -90,15 +91,16 @@ module _ (v : Variant) (key nonce secret ad m out : Bytes) where
     pub returned : sealRefusal v key nonce secret ad m out ≡ sealing .refusal
 
 -- ---- opening: 1, 2, 4, 6, 5, 7. By the lengths of key, nonce, associated data and sealed message; when what is lent has no room, and when the tag differs
-abbrev pub orderOfOpen : Variant → (k n a c : ℕ) (noRoom differs : Type 0) → List Refusal
-orderOfOpen v k n a c noRoom differs =
+abbrev pub orderToOpen : Variant → (k n a c : ℕ) → List Refusal
+orderToOpen v k n a c =
     (1 on (k ≢ sizes v .key))
     ∷ (2 on (n ≢ sizes v .nonce))
     ∷ (4 on ((maxLength < a) ⊎ (maxLength + (sizes v .secret + tagLength) < c)))
     ∷ (6 on (c < sizes v .secret + tagLength))
-    ∷ (5 on noRoom)
-    ∷ (7 on differs)
     ∷ []
+
+abbrev pub orderOfOpen : Variant → (k n a c : ℕ) (noRoom differs : Type 0) → List Refusal
+orderOfOpen v k n a c noRoom differs = orderToOpen v k n a c ++ ((5 on noRoom) ∷ (7 on differs) ∷ [])
 
 -- what `open_number` answers, which is told whether there is room and knows no tag
 abbrev pub OpenNumber : Type 0
@@ -112,13 +114,30 @@ module _ (v : Variant) (key nonce ad c : Bytes) where
   abbrev TagDiffers : Type 0
   TagDiffers = tagAgrees (sizes v) key nonce ad c ≡ false
 
-  -- verifying, which writes nothing
+  -- verifying, which writes nothing: 1, 2, 4, 6, 7
   abbrev verifying : Opened
   verifying = openAnswer v key nonce ad c true
 
   pub record Verify : Type 0 where
-    pub order : FirstOf (verifying .refusal) (orderOfOpen v (length key) (length nonce) (length ad) (length c) ⊥ TagDiffers)
+    pub order : FirstOf (verifying .refusal) (orderToOpen v (length key) (length nonce) (length ad) (length c) ++ ((7 on TagDiffers) ∷ []))
     pub refused : verifying .refusal ≢ 0 → verifying ≡ record { refusal = verifying .refusal; mark = 0; length = 0; secret = replicate maxSecret 0 }
+
+  -- opening in place, of the buffer c: 1, 2, 4, 6, 7
+  pub record OpenInPlace : Type 0 where
+    pub order :
+        FirstOf (inPlaceAnswer v key nonce ad c .refusal) (orderToOpen v (length key) (length nonce) (length ad) (length c) ++ ((7 on TagDiffers) ∷ []))
+    pub refused : inPlaceAnswer v key nonce ad c .refusal ≢ 0
+        → (inPlaceAnswer v key nonce ad c ≡ record { refusal = inPlaceAnswer v key nonce ad c .refusal; mark = 0; length = 0; secret = replicate maxSecret 0 })
+        × (inPlaceBuffer v key nonce ad c ≡ c)
+
+  -- in C, with 5 for the info
+  module _ (info : Bytes) where
+    abbrev openingInPlaceC : ℕ
+    openingInPlaceC = openCallRefusal v key nonce ad c c info
+
+    pub record OpenInPlaceCall : Type 0 where
+      pub order : FirstOf openingInPlaceC (orderOfOpen v (length key) (length nonce) (length ad) (length c) (length info < infoLength v) TagDiffers)
+      pub refused : openingInPlaceC ≢ 0 → (openCallOutput v key nonce ad c c info ≡ c) × (openCallInfo v key nonce ad c c info ≡ info)
 
   module _ (out : Bytes) where
     abbrev opening : Opened
@@ -396,6 +415,8 @@ pub record Demand1 : Type 0 where
   pub verifies : (v : Variant) (key nonce ad c : Bytes) → Verify v key nonce ad c
   pub opens : (v : Variant) (key nonce ad c out : Bytes) → Open v key nonce ad c out
   pub opens-in-c : (v : Variant) (key nonce ad c out info : Bytes) → OpenCall v key nonce ad c out info
+  pub opens-in-place : (v : Variant) (key nonce ad c : Bytes) → OpenInPlace v key nonce ad c
+  pub opens-in-place-in-c : (v : Variant) (key nonce ad c info : Bytes) → OpenInPlaceCall v key nonce ad c info
   pub start-number : StartNumber
   pub starts : (key nonce secret ad out : Bytes) → Start key nonce secret ad out
   pub strips : (s : StripState) (m out : Bytes) → Strip s m out

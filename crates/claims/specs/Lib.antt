@@ -4,7 +4,8 @@ pub mod Generated
 pub mod RoundLogs
 pub mod RoundsBack
 pub mod PaperBits
-pub mod Demand1
 pub mod Demand2
+pub mod InPlace
+pub mod Demand1
 pub mod StripLists
 pub mod Demand3

@@ -3,9 +3,9 @@
 use mathlib.Core.Path.{_≡_, refl, sym, ap, ap₂, _∙_}
 use mathlib.Core.Bool.{Bool, true, false, cond, not}
 use mathlib.Core.List.{[], _++_}
-use Prim.Native.Nat.{ℕ, zero, suc, _+_, _-_, _*_, _/_}
+use Prim.Native.Nat.{ℕ, zero, suc, _+_, _-_, _*_, _/_, _≤_, _<_}
 use native.Mathlib.Omega.{arith}
-use borrow.Author.Tests.{ne-eqb}
+use borrow.Author.Tests.{leb-true, ne-eqb}
 use lib.Dec.{leb}
 use lib.ListN.{length, replicate, take, drop, length-append}
 use Rattle.bytes_le.specs.Bytes.{Bytes, putBytes, same}
@@ -116,7 +116,7 @@ module _ (v : Variant) (k n a c : Bytes) (fits : Bool) (r : Opened) (er : r ≡ 
     unfolding openAnswer
     open-given = er ∙ ap (λ (i : ℕ). openedAnswer i (openLength v c) (secretOf (sizes v) k n c)) (is-open-refusal ∙ z)
 
-    pub open-written : (o o′ : Bytes) → o′ ≡ putBytes o 0 (messageOf (sizes v) k n a c) → o′ ≡ openOutput v k n a c fits o
+    open-written : (o o′ : Bytes) → o′ ≡ putBytes o 0 (messageOf (sizes v) k n a c) → o′ ≡ openOutput v k n a c fits o
     unfolding openOutput
     open-written o o′ eo = let w : openRefusal v k n a c fits ≡ 0 = is-open-refusal ∙ z in eo ∙ sym (simp w)
 
@@ -127,16 +127,32 @@ answer-by v q eq k n a c o b eb r er =
     er ∙ ap (openAnswer v k n a c) (eb ∙ ap (λ (q : Sizes). leb (length c - (q .secret + 16)) (length o)) eq)
 
 -- ---- what opening is made of, in the terms of the code
--- the message, in the terms of the code: u is the state after the associated data, and o′ the output after it
-pub message-by : (v : Variant) (q : Sizes) → q ≡ sizes v → Bounded q → (k n a c u o o′ : Bytes) (l : ℕ)
-    → u ≡ readyOf (sizes v) k n a c → l ≡ length c - (sizes v .secret + 16)
-    → o′ ≡ putBytes o 0 (decrypt (8 * (q .block / 8)) u (take l (drop (q .secret) c)))
-    → o′ ≡ putBytes o 0 (messageOf (sizes v) k n a c)
-unfolding messageOf
-message-by v q eq hq k n a c u o o′ l eu el e =
-    e ∙ ap (λ (r : ℕ). putBytes o 0 (decrypt r u (take l (drop (q .secret) c)))) (whole q hq)
-    ∙ ap (λ (q : Sizes). putBytes o 0 (decrypt (q .block) u (take l (drop (q .secret) c)))) eq
-    ∙ ap₂ (λ (u : Bytes) (l : ℕ). putBytes o 0 (decrypt (sizes v .block) u (take l (drop (sizes v .secret) c)))) eu el
+-- the number of the answer r is 0: what the call that decrypts wants, and what it puts into an output o. q is what the code has for the sizes, and u the state
+-- after the associated data
+module _ (v : Variant) (q : Sizes) (eq : q ≡ sizes v) (hq : Bounded q) (k n a c : Bytes) (fits : Bool) (r : Opened) (er : r ≡ openAnswer v k n a c fits)
+    (z : r .refusal ≡ 0) where
+  is-length : r .length ≡ openLength v c
+  is-length = ap (λ (r : Opened). r .length) (open-given v k n a c fits r er z)
+
+  pub to-decrypt : (0 < q .block / 8) × (q .block / 8 < 20) × (q .secret + r .length ≤ length c)
+  to-decrypt =
+      let w = open-tells v k n a c fits r er z .sealed in
+      let e = ap (λ (q : Sizes). q .secret) eq in
+      let l = is-length in
+      (omega (arith, hq .some, hq .whole), omega (arith, hq .block), omega (arith, w, l, e))
+
+  -- the message fits
+  pub has-room : (o : ℕ) → fits ≡ leb (openLength v c) o → r .length ≤ o
+  has-room o e = let h = leb-true (openLength v c) o (sym e ∙ open-tells v k n a c fits r er z .room) in omega (arith, h, is-length)
+
+  pub decrypted : (u o o′ : Bytes) → u ≡ readyOf (sizes v) k n a c → o′ ≡ putBytes o 0 (decrypt (8 * (q .block / 8)) u (take (r .length) (drop (q .secret) c)))
+      → o′ ≡ openOutput v k n a c fits o
+  unfolding messageOf
+  decrypted u o o′ eu e =
+      open-written v k n a c fits r er z o o′
+      (e ∙ ap (λ (b : ℕ). putBytes o 0 (decrypt b u (take (r .length) (drop (q .secret) c)))) (whole q hq)
+      ∙ ap (λ (q : Sizes). putBytes o 0 (decrypt (q .block) u (take (r .length) (drop (q .secret) c)))) eq
+      ∙ ap₂ (λ (u : Bytes) (l : ℕ). putBytes o 0 (decrypt (sizes v .block) u (take l (drop (sizes v .secret) c)))) eu is-length)
 
 pub agrees-by : (v : Variant) (q : Sizes) → q ≡ sizes v → (k n a c : Bytes) (b : Bool) → b ≡ same (expectedTag q k n a c) (tagPart c)
     → b ≡ tagAgrees (sizes v) k n a c

@@ -345,3 +345,27 @@ pub fn open_message(
     blocks::decrypt_message(&mut state, q.block / 8, sealed, q.secret, r.length, out);
     r
 }
+
+// Opening in place (02, N6): all of buffer is the sealed message, and the message is put to its front. It is written only after the tag was found to agree; until
+// then the buffer is only read.
+pub fn open_in_place(
+    v: Variant,
+    key: &[u8],
+    nonce: &[u8],
+    first: &[u8],
+    second: &[u8],
+    buffer: &mut [u8],
+) -> Opened
+    ensures { λ r. ⌜ (r ≡ openAnswer v (now (key .entry)) (now (nonce .entry)) (now (first .entry) ++ now (second .entry)) (now (buffer .entry)) true)
+        × (now (buffer .exit) ≡ openOutput v (now (key .entry)) (now (nonce .entry)) (now (first .entry) ++ now (second .entry)) (now (buffer .entry)) true
+        (now (buffer .entry))) ⌝ }
+{
+    let q = sizes_of(v);
+    let mut state = [[0u64; 5]; 4];
+    let r = open_verified(v, key, nonce, first, second, buffer, true, &mut state);
+    if r.refusal != 0 {
+        return r;
+    }
+    blocks::decrypt_in_place(&mut state, q.block / 8, buffer, q.secret, r.length);
+    r
+}

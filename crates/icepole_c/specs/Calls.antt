@@ -1,4 +1,5 @@
--- The C calls of sealing and opening (01, "Sealing and opening"), over the variant: `SealContract` and `OpenContract` are the contracts of the three pairs.
+-- The C calls of sealing and opening (01, "Sealing and opening"; 02, N6), over the variant: `SealContract`, `OpenContract` and `InPlaceContract` are the
+-- contracts of the calls of each.
 -- Opening puts the message's length (8 bytes) and then the secret number at the front of a further lent slice, here called info.
 -- Assumes nothing.
 use mathlib.Core.Path.{_≡_}
@@ -21,6 +22,10 @@ SealContract v key nonce secret ad m out r out′ = (r ≡ sealRefusal v key non
 abbrev pub infoLength : Variant → ℕ
 infoLength v = 8 + sizes v .secret
 
+-- info after an opening that answers r, with a secret number of n bytes
+abbrev pub infoAfter : Opened → ℕ → Bytes → Bytes
+infoAfter r n info = unless (r .refusal) info (putBytes info 0 (le 8 (r .length) ++ take n (r .secret)))
+
 module _ (v : Variant) (key nonce ad c out info : Bytes) where
   -- whether info and out are both long enough; else 5
   abbrev pub fitsBoth : Bool
@@ -37,8 +42,12 @@ module _ (v : Variant) (key nonce ad c out info : Bytes) where
   openCallOutput = openOutput v key nonce ad c fitsBoth out
 
   unfoldable pub openCallInfo : Bytes
-  openCallInfo = unless openCallRefusal info (putBytes info 0 (le 8 (openCallAnswer .length) ++ take (sizes v .secret) (openCallAnswer .secret)))
+  openCallInfo = infoAfter openCallAnswer (sizes v .secret) info
 
   -- the call returns r and leaves the output as out′ and the further slice as info′
   abbrev pub OpenContract : ℕ → Bytes → Bytes → Type 0
   OpenContract r out′ info′ = (r ≡ openCallRefusal) × (out′ ≡ openCallOutput) × (info′ ≡ openCallInfo)
+
+-- opening in place: c is the sealed message, and the output too. The message always fits into it (`claims/specs/InPlace.antt`), so 5 is for info alone
+abbrev pub InPlaceContract : Variant → (key nonce ad c info : Bytes) → ℕ → Bytes → Bytes → Type 0
+InPlaceContract v key nonce ad c info r c′ info′ = OpenContract v key nonce ad c c info r c′ info′

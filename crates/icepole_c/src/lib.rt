@@ -1,15 +1,17 @@
-// The calls of the camera's main firmware, which is in C: sealing and opening, one pair for each variant, and strips of 128. Each returns the refusal number,
-// 0 when done. include/icepole.h declares them.
+// The calls of the camera's main firmware, which is in C: sealing, opening and opening in place, one of each for each variant, and strips of 128. Each returns the
+// refusal number, 0 when done. include/icepole.h declares them.
 use icepole::OUTPUT_TOO_SHORT;
+use icepole::Opened;
 use icepole::Variant;
 use state_bytes::STATE_BYTES;
 use strips::StripState;
 ghost use mathlib.Core.Path.{_≡_};
 ghost use mathlib.Core.List.{_++_};
-ghost use Prim.Native.Nat.{_≤_};
+ghost use Prim.Native.Nat.{_+_, _≤_};
 ghost use lib.ListN.{length};
 ghost use Rattle.bytes_le.specs.Bytes.{putBytes};
-ghost use Rattle.icepole_c.specs.Calls.{SealContract, OpenContract};
+ghost use Rattle.blocks.specs.Lengths.{maxSecret};
+ghost use Rattle.icepole_c.specs.Calls.{infoAfter, SealContract, OpenContract, InPlaceContract};
 ghost use Rattle.icepole_c.specs.Strips.{stripStateLength, flag, stripStateBytes, stripStateIn, StartContract, StripContract, EndContract};
 
 fn seal_call(
@@ -30,6 +32,22 @@ fn seal_call(
 
 // Where the secret number stands in what opening puts into info, behind the message's length.
 const SECRET_AT: usize = 8;
+
+// Where opening answered r and was not refused, its length and its secret number of n bytes are put into info. Returns its number.
+fn put_info(r: Opened, n: usize, info: &mut [u8]) -> u32
+    requires { ⌜ (n ≤ maxSecret) × (8 + n ≤ length (now info)) ⌝ }
+    ensures { λ x. ⌜ (x ≡ r .refusal) × (now (info .exit) ≡ infoAfter r n (now (info .entry))) ⌝ }
+{
+    let number = r.refusal;
+    if number != 0 {
+        return number;
+    }
+    let count = r.length as u64;
+    let s = r.secret;
+    bytes_le::store_u64(info, 0, count);
+    bytes_le::put_bytes(info, SECRET_AT, &s[0..n]);
+    0
+}
 
 fn open_call(
     v: Variant,
@@ -58,15 +76,36 @@ fn open_call(
         );
     }
     let r = icepole::open_message(v, key, nonce, first, second, sealed, out);
-    let number = r.refusal;
-    if number != 0 {
-        return number;
+    put_info(r, n, info)
+}
+
+fn open_in_place_call(
+    v: Variant,
+    key: &[u8],
+    nonce: &[u8],
+    first: &[u8],
+    second: &[u8],
+    buffer: &mut [u8],
+    info: &mut [u8],
+) -> u32
+    ensures { λ r. ⌜ InPlaceContract v (now (key .entry)) (now (nonce .entry))
+        (now (first .entry) ++ now (second .entry)) (now (buffer .entry)) (now (info .entry)) r (now (buffer .exit)) (now (info .exit)) ⌝ }
+{
+    let q = icepole::sizes_of(v);
+    let n = q.secret;
+    if info.len() < SECRET_AT + n {
+        return icepole::open_number(
+            v,
+            key.len(),
+            nonce.len(),
+            first.len(),
+            second.len(),
+            buffer.len(),
+            false,
+        );
     }
-    let count = r.length as u64;
-    let s = r.secret;
-    bytes_le::store_u64(info, 0, count);
-    bytes_le::put_bytes(info, SECRET_AT, &s[0..n]);
-    0
+    let r = icepole::open_in_place(v, key, nonce, first, second, buffer);
+    put_info(r, n, info)
 }
 
 #[no_mangle]
@@ -120,6 +159,21 @@ pub extern "C" fn icepole128_open(
 }
 
 #[no_mangle]
+pub extern "C" fn icepole128_open_in_place(
+    key: &[u8],
+    nonce: &[u8],
+    first: &[u8],
+    second: &[u8],
+    buffer: &mut [u8],
+    info: &mut [u8],
+) -> u32
+    ensures { λ r. ⌜ InPlaceContract Variant.Icepole128 (now (key .entry)) (now (nonce .entry))
+        (now (first .entry) ++ now (second .entry)) (now (buffer .entry)) (now (info .entry)) r (now (buffer .exit)) (now (info .exit)) ⌝ }
+{
+    open_in_place_call(Variant::Icepole128, key, nonce, first, second, buffer, info)
+}
+
+#[no_mangle]
 pub extern "C" fn icepole128a_seal(
     key: &[u8],
     nonce: &[u8],
@@ -170,6 +224,29 @@ pub extern "C" fn icepole128a_open(
 }
 
 #[no_mangle]
+pub extern "C" fn icepole128a_open_in_place(
+    key: &[u8],
+    nonce: &[u8],
+    first: &[u8],
+    second: &[u8],
+    buffer: &mut [u8],
+    info: &mut [u8],
+) -> u32
+    ensures { λ r. ⌜ InPlaceContract Variant.Icepole128a (now (key .entry)) (now (nonce .entry))
+        (now (first .entry) ++ now (second .entry)) (now (buffer .entry)) (now (info .entry)) r (now (buffer .exit)) (now (info .exit)) ⌝ }
+{
+    open_in_place_call(
+        Variant::Icepole128a,
+        key,
+        nonce,
+        first,
+        second,
+        buffer,
+        info,
+    )
+}
+
+#[no_mangle]
 pub extern "C" fn icepole256a_seal(
     key: &[u8],
     nonce: &[u8],
@@ -215,6 +292,29 @@ pub extern "C" fn icepole256a_open(
         second,
         sealed,
         out,
+        info,
+    )
+}
+
+#[no_mangle]
+pub extern "C" fn icepole256a_open_in_place(
+    key: &[u8],
+    nonce: &[u8],
+    first: &[u8],
+    second: &[u8],
+    buffer: &mut [u8],
+    info: &mut [u8],
+) -> u32
+    ensures { λ r. ⌜ InPlaceContract Variant.Icepole256a (now (key .entry)) (now (nonce .entry))
+        (now (first .entry) ++ now (second .entry)) (now (buffer .entry)) (now (info .entry)) r (now (buffer .exit)) (now (info .exit)) ⌝ }
+{
+    open_in_place_call(
+        Variant::Icepole256a,
+        key,
+        nonce,
+        first,
+        second,
+        buffer,
         info,
     )
 }

@@ -1,16 +1,12 @@
 -- `icepole::open_message` meets its contract: by the answer of `open_verified`; where its number is 0, the message is written.
 -- Assumes nothing.
-use mathlib.Core.Path.{ap}
+use mathlib.Core.Path.{refl}
 use mathlib.Core.List.{_++_}
-use native.Mathlib.Omega.{arith}
 use borrow.Author.Needs.{needs}
-use borrow.Author.Tests.{leb-true}
 use lib.ListN.{length}
-use Rattle.icepole.specs.Answers.{fitsOutput, openLength}
+use Rattle.icepole.specs.Answers.{fitsOutput}
 use Rattle.blocks.specs.Bounds.{Bounded}
-use Rattle.icepole.specs.declared.Opened.{Opened}
-use Rattle.blocks.specs.declared.Sizes.{Sizes}
-use Rattle.icepole.proofs.Answers.{message-by, answer-by, open-given, open-stays, open-tells, open-written}
+use Rattle.icepole.proofs.Answers.{answer-by, decrypted, has-room, open-stays, to-decrypt}
 use Rattle.icepole.proofs.Bounds.{bounded-by}
 use Rattle.icepole.proofs.open_message.Statement.{statement}
 use Rattle.icepole.proofs.open_message.Tie as tie
@@ -40,13 +36,9 @@ decrypt-message-requires c κs =
     let e = answer-by (a .v) _ (q .ensures) (a .key .now) (a .nonce .now) (a .first .now ++ a .second .now) (a .sealed .now) (a .out .now) _ (m .ensures)
     _ (f .open-verified .ensures .0) in
     let z = c .before .before .before .if1 .left in
-    let w = open-tells (a .v) (a .key .now) (a .nonce .now) (a .first .now ++ a .second .now) (a .sealed .now) (fitsOutput (a .v) (a .sealed .now) (a .out .now)) _ e z in
-    let g = open-given (a .v) (a .key .now) (a .nonce .now) (a .first .now ++ a .second .now) (a .sealed .now) (fitsOutput (a .v) (a .sealed .now) (a .out .now)) _ e z in
-    let l = ap (λ (r : Opened). r .length) g in
     let h = bounds (f .before .before .before) in
-    let r = leb-true (openLength (a .v) (a .sealed .now)) (length (a .out .now)) (w .room) in
-    let s = ap (λ (q : Sizes). q .secret) (q .ensures) in
-    (omega (arith, h .some, h .whole), omega (arith, h .block), omega (arith, w .sealed, l, s), omega (arith, r, l))
+    let w = to-decrypt (a .v) _ (q .ensures) h _ _ _ (a .sealed .now) _ _ e z in
+    (w .0, w .1, w .2, has-room (a .v) _ (q .ensures) h _ _ _ (a .sealed .now) _ _ e z (length (a .out .now)) refl)
 
 returns-2 : tie.Need-returns-2
 returns-2 c =
@@ -56,12 +48,10 @@ returns-2 c =
     let a = f .before .before .before .before .before .before .before .before .before .before .args in
     let e = answer-by (a .v) _ (q .ensures) (a .key .now) (a .nonce .now) (a .first .now ++ a .second .now) (a .sealed .now) (a .out .now) _ (m .ensures)
     _ (f .open-verified .ensures .0) in
-    let z = c .before .before .before .before .before .before .if1 .left in
-    let g = open-given (a .v) (a .key .now) (a .nonce .now) (a .first .now ++ a .second .now) (a .sealed .now) (fitsOutput (a .v) (a .sealed .now) (a .out .now)) _ e z in
-    let l = ap (λ (r : Opened). r .length) g in (
+    let z = c .before .before .before .before .before .before .if1 .left in (
       e,
-      open-written (a .v) (a .key .now) (a .nonce .now) (a .first .now ++ a .second .now) (a .sealed .now) (fitsOutput (a .v) (a .sealed .now) (a .out .now)) _ e z (a .out .now) _
-          (message-by (a .v) _ (q .ensures) (bounds (f .before .before .before)) _ _ _ _ _ (a .out .now) _ _ (f .open-verified .ensures .1 z) l (c .before .before .decrypt-message .ensures)),
+      decrypted (a .v) _ (q .ensures) (bounds (f .before .before .before)) _ _ _ (a .sealed .now) _ _ e z _ (a .out .now) _ (f .open-verified .ensures .1 z)
+          (c .before .before .decrypt-message .ensures),
     )
 
 pub open-message-spec : {M : Type 1} → statement M
