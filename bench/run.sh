@@ -22,6 +22,7 @@ main="gcc -std=c11 -D_POSIX_C_SOURCE=200809L -Wall -Wextra -Werror -O2"
 lib=target/staticlib
 $main bench/p6.c build/permutation.o $lib/libpermutation_bench.a -o build/p6
 $main bench/sealing.c build/icepole_plain.o build/icepole_shaped.o $lib/libicepole_c.a $lib/libicepole_bench.a -o build/sealing
+$main bench/in_place.c $lib/libicepole_c.a -o build/in_place
 $main bench/strips.c $lib/libicepole_c.a -o build/strips
 $main bench/round_log.c $lib/libcore_c.a $lib/libpermutation_bench.a -o build/round_log_bench
 $main bench/rounds_back.c $lib/libcore_c.a -o build/rounds_back_bench
@@ -35,10 +36,10 @@ count() {
 p6() {
     echo $((($(count build/p6 "$1" 1001) - $(count build/p6 "$1" 1)) / 1000))
 }
-# Of a 128-byte block: the difference of 32 KiB and 16 KiB, by 128, less what the program does without the call.
+# Of a 128-byte block, by a program and its call: the difference of 32 KiB and 16 KiB, by 128, less what the program does without the call.
 block() {
-    more=$(($(count build/sealing "$1" 32768) - $(count build/sealing none 32768)))
-    less=$(($(count build/sealing "$1" 16384) - $(count build/sealing none 16384)))
+    more=$(($(count "$1" "$2" 32768) - $(count "$1" none 32768)))
+    less=$(($(count "$1" "$2" 16384) - $(count "$1" none 16384)))
     echo $(((more - less) / 128))
 }
 # Of the log of a P12, all right.
@@ -59,8 +60,13 @@ instructions() {
 counted() {
     command -v valgrind >/dev/null || { echo "| instructions | valgrind is not installed | | | |"; return; }
     instructions "of one P6" "$(p6 proved)" "$(p6 plain)" 1820
-    instructions "of a 128-byte block sealed" "$(block seal)" "$(block plain_seal)" 1850
-    instructions "of a 128-byte block opened" "$(block open)" "$(block plain_open)" 3850
+    instructions "of a 128-byte block sealed" "$(block build/sealing seal)" "$(block build/sealing plain_seal)" 1850
+    instructions "of a 128-byte block opened" "$(block build/sealing open)" "$(block build/sealing plain_open)" 3850
+}
+counted_in_place() {
+    command -v valgrind >/dev/null || return 0
+    printf '\n| | in place | into another buffer | in place / into another | wanted |\n|---|---|---|---|---|\n'
+    instructions "of a 128-byte block opened" "$(block build/in_place in_place)" "$(block build/in_place open)" 3850
 }
 counted_log() {
     ! command -v valgrind >/dev/null || instructions "of a log of 13 states" "$(round_log)" "$((2 * $(p6 proved)))" 4100
@@ -83,6 +89,7 @@ machine() {
 
 build/p6 >build/p6.md
 build/sealing >build/sealing.md
+build/in_place >build/in_place.md
 build/strips >build/strips.md
 build/round_log_bench >build/round_log.md
 build/rounds_back_bench >build/rounds_back.md
@@ -91,6 +98,7 @@ build/burst growth >build/growth.md
 awk -f bench/plot.awk build/growth.md >build/benchmarks.svg
 sh bench/openssl.sh >build/openssl.md
 counted >build/counted.md
+counted_in_place >build/counted_in_place.md
 counted_log >build/counted_log.md
 counted_rounds >build/counted_rounds.md
 {
@@ -101,6 +109,8 @@ counted_rounds >build/counted_rounds.md
     cat build/sealing.md
     printf '\n### Against OpenSSL\n\n'
     cat build/openssl.md
+    printf '\n### Opening in place\n\n'
+    cat build/in_place.md build/counted_in_place.md
     printf '\n### Strips\n\n'
     cat build/strips.md
     printf '\n### Round logs\n\n| | judged | twelve rounds of the proved permutation (two P6) | judged / rounds | wanted |\n|---|---|---|---|---|\n'

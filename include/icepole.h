@@ -121,8 +121,8 @@ uint32_t icepole256a_open(const uint8_t *key, size_t key_len, const uint8_t *non
  * The number, the message and what goes into info are those of opening with an out that is long enough. A message is shorter than its
  * sealed message, so buffer always has room for it: 5 is for info alone.
  *
- * The sealed message is written over: keep it elsewhere, as on the card, where it is wanted again. Beside the slices a call needs a few
- * hundred bytes of stack, for a long message no more than for a short one.
+ * The sealed message is written over: keep it elsewhere, as on the card, where it is wanted again. Beside the slices a call needs less
+ * than 2 KiB of stack, for a long message no more than for a short one, and takes no memory from the heap.
  */
 uint32_t icepole128_open_in_place(const uint8_t *key, size_t key_len, const uint8_t *nonce, size_t nonce_len,
                                   const uint8_t *ad1, size_t ad1_len, const uint8_t *ad2, size_t ad2_len,

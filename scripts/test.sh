@@ -83,11 +83,16 @@ run() {
 
 c="gcc -std=c11 -Wall -Wextra -Werror -pedantic -g"
 
-# A C program, its library and its arguments: compiled with the headers as a firmware author would, and run under valgrind. The tests' programs have buffers of
-# the exact size on the heap, so that valgrind sees the library read or write beside them.
+# The paths of libraries.
+libraries() {
+    printf 'target/staticlib/%s ' "$@"
+}
+
+# A C program, its libraries in one word and its arguments: compiled with the headers as a firmware author would, and run under valgrind. The tests' programs have
+# buffers of the exact size on the heap, so that valgrind sees the library read or write beside them.
 c_program() {
     name=$(basename "$1" .c)
-    $c -Iinclude "$1" "target/staticlib/$2" -o "build/$name" || return 1
+    $c -Iinclude "$1" $(libraries $2) -o "build/$name" || return 1
     shift 2
     run "build/$name" "$@" || return 1
     if command -v valgrind >/dev/null; then
@@ -106,7 +111,7 @@ c_sanitized() {
         echo "gcc has no sanitizers here: $name did not run"
         return 0
     fi
-    $c $sanitizers -Iinclude "$1" "target/staticlib/$2" -o "build/$name" || return 1
+    $c $sanitizers -Iinclude "$1" $(libraries $2) -o "build/$name" || return 1
     shift 2
     run "build/$name" "$@"
 }
@@ -114,6 +119,11 @@ c_sanitized() {
 # The example says what examples/firmware.out has.
 example() {
     c_program examples/firmware.c libburst_c.a build/card.burst && diff examples/firmware.out build/run.log
+}
+
+# The playback unit shows the pictures of the example's file, and refuses what was damaged on its way.
+playback() {
+    c_program examples/playback.c "libburst_c.a libicepole_c.a" build/card.burst && diff examples/playback.out build/run.log
 }
 
 # A card that is full after some thousand bytes: no file is left, and one that was there stays.
@@ -199,6 +209,11 @@ no_division() {
     done
 }
 
+# What the libraries want of the C library: memcpy and memset, and so no memory from the heap.
+wanted_names() {
+    names=$(nm -u "$@" | awk '$1 == "U" && $2 != "memcpy" && $2 != "memset" {print $2}') && [ -z "$names" ] || { echo "wanted too: $names"; return 1; }
+}
+
 # The same look at two short C functions that divide.
 division_seen() {
     command -v objdump >/dev/null || { no_division; return; }
@@ -256,27 +271,33 @@ step "must-fail edits are refused on a fact" sh scripts/first_errors.sh
 step "and those that are not are seen" first_errors_tried
 step "make lib" lib
 step "the C program of sealing" c_program tests/c_calls/c/roundtrip.c libicepole_c.a
+step "the C program of opening in place" c_program tests/c_calls/c/open_in_place.c libicepole_c.a
 step "the C program of bursts" c_program tests/burst_calls/c/record_and_read.c libburst_c.a
 step "the C program of round logs" c_program tests/core_calls/c/check_logs.c libcore_c.a
 step "the C program of rounds" c_program tests/core_calls/c/drive_rounds.c libcore_c.a
 step "the example" example
 step "the example on a full card" full_card
+step "the example of a playback unit" playback
 step "the example of a chosen state" chosen_state
 step "the C program of sealing, sanitized" c_sanitized tests/c_calls/c/roundtrip.c libicepole_c.a
+step "the C program of opening in place, sanitized" c_sanitized tests/c_calls/c/open_in_place.c libicepole_c.a
 step "the C program of bursts, sanitized" c_sanitized tests/burst_calls/c/record_and_read.c libburst_c.a
 step "the C program of round logs, sanitized" c_sanitized tests/core_calls/c/check_logs.c libcore_c.a
 step "the C program of rounds, sanitized" c_sanitized tests/core_calls/c/drive_rounds.c libcore_c.a
 step "the example, sanitized" c_sanitized examples/firmware.c libburst_c.a build/card.burst
+step "the example of a playback unit, sanitized" c_sanitized examples/playback.c "libburst_c.a libicepole_c.a" build/card.burst
 step "icepole from build/lib" moved_folder tests/c_calls/c/roundtrip.c icepole
 step "burst from build/lib" moved_folder examples/firmware.c burst build/card.burst
 step "core from build/lib" moved_folder tests/core_calls/c/check_logs.c core
 step "instructions of a sealed block" block icepole128_seal 1850
 step "instructions of an opened block" block icepole128_open 3850
+step "instructions of a block opened in place" block icepole128_open_in_place 3850
 step "instructions of a P6" p6
 step "instructions of a round log" round_log_counted
 step "instructions of rounds back and forward" rounds_counted
 step "no division in the libraries" no_division target/staticlib/libicepole_c.a target/staticlib/libburst_c.a target/staticlib/libcore_c.a
 step "and one that is there is seen" division_seen
+step "memcpy and memset of the C library alone" wanted_names target/staticlib/libicepole_c.a target/staticlib/libburst_c.a target/staticlib/libcore_c.a
 rust_tests tests
 rust_tests tools/burst
 step "make tables" tables

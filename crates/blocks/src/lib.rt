@@ -362,8 +362,8 @@ pub fn decrypt_message(s: &mut State, n: usize, c: &[u8], from: usize, l: usize,
     decrypt_bytes(s, c, from + at, l - at, out, at);
 }
 
-// The message of l bytes of ciphertext from index from on is put to the front of the buffer where they stand. A block is copied out before its message is put, and
-// what is put ends at or before the next block. What is left of the state is of no use.
+// The same where the ciphertext stands in out itself, here b: the message is put at the front of b. Each block is copied before its message is put, and that ends at
+// or before the next block, since the message never runs ahead of its ciphertext.
 pub fn decrypt_in_place(s: &mut State, n: usize, b: &mut [u8], from: usize, l: usize)
     requires { ⌜ (0 < n) × (n < stateWords) × (from + l ≤ length (now b)) ⌝ }
     ensures { λ _. ⌜ now (b .exit) ≡ putBytes (now (b .entry)) 0 (decrypt (8 * n) (bytesOf (now (s .entry))) (take l (drop from (now (b .entry))))) ⌝ }
@@ -372,7 +372,8 @@ pub fn decrypt_in_place(s: &mut State, n: usize, b: &mut [u8], from: usize, l: u
     let mut block = [0u8; STATE_BYTES];
     let mut at: usize = 0;
     while r < l - at {
-        bytes_le::put_bytes(&mut block, 0, &b[from + at..from + at + r]);
+        let c = from + at;
+        bytes_le::put_bytes(&mut block, 0, &b[c..c + r]);
         decrypt_full(s, &block, 0, n, b, at);
         finish(s, r, 1);
         at += r;

@@ -362,10 +362,10 @@ pub fn open_in_place(
 {
     let q = sizes_of(v);
     let mut state = [[0u64; 5]; 4];
-    let r = open_verified(v, key, nonce, first, second, buffer, true, &mut state);
-    if r.refusal != 0 {
-        return r;
+    let opened = open_verified(v, key, nonce, first, second, buffer, true, &mut state);
+    if opened.refusal != 0 {
+        return opened;
     }
-    blocks::decrypt_in_place(&mut state, q.block / 8, buffer, q.secret, r.length);
-    r
+    blocks::decrypt_in_place(&mut state, q.block / 8, buffer, q.secret, opened.length);
+    opened
 }

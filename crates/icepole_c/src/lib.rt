@@ -92,8 +92,8 @@ fn open_in_place_call(
         (now (first .entry) ++ now (second .entry)) (now (buffer .entry)) (now (info .entry)) r (now (buffer .exit)) (now (info .exit)) ⌝ }
 {
     let q = icepole::sizes_of(v);
-    let n = q.secret;
-    if info.len() < SECRET_AT + n {
+    let secret = q.secret;
+    if info.len() < SECRET_AT + secret {
         return icepole::open_number(
             v,
             key.len(),
@@ -105,7 +105,7 @@ fn open_in_place_call(
         );
     }
     let r = icepole::open_in_place(v, key, nonce, first, second, buffer);
-    put_info(r, n, info)
+    put_info(r, secret, info)
 }
 
 #[no_mangle]

@@ -1,0 +1,121 @@
+/*
+ * A playback unit with memory for one picture, and the base station that sends it pictures:
+ *
+ *     playback BURST_FILE
+ *
+ * The station has the whole file in memory, one of examples/firmware.c. burst_record checks the file and says where a sealed record stands;
+ * the station sends it, with the nonce and the index entry that belong to it (docs/FORMAT.md, "What is sealed").
+ *
+ * The unit has one buffer, as long as the longest record. icepole128_open_in_place opens a record where it lies: the picture then stands at
+ * the front of the same buffer. A record that was damaged on its way is refused, nothing of it is shown, and the buffer keeps the bytes
+ * that came. So it is here with the second record; the station sends it again.
+ */
+#include <inttypes.h>
+#include <stdio.h>
+#include <stdlib.h>
+#include <string.h>
+
+#include "burst.h"
+#include "icepole.h"
+
+enum {
+    ENTRY_BYTES = 12,
+    LONGEST_RECORD = BURST_MAX_PICTURE_BYTES + ICEPOLE128_OVERHEAD_BYTES
+};
+
+/* The key of examples/firmware.c, which unit and station both have. */
+static const uint8_t key[ICEPOLE128_KEY_BYTES] = {0x1B, 0x70, 0xC2, 0x49, 0x9E, 0x05, 0xD8, 0x33,
+                                                  0x66, 0xA1, 0x2F, 0xF4, 0x8D, 0x50, 0xBE, 0x17};
+
+/* The unit's memory. */
+static struct {
+    uint8_t nonce[ICEPOLE128_NONCE_BYTES];
+    uint8_t entry[ENTRY_BYTES];
+    uint8_t buffer[LONGEST_RECORD]; /* the sealed record, then the picture */
+    size_t length;
+    uint8_t info[ICEPOLE128_INFO_BYTES];
+} unit;
+
+/* ---- Numbers, low byte first ---- */
+
+static uint64_t get(const uint8_t *at, int bytes)
+{
+    uint64_t number = 0;
+    for (int i = bytes - 1; i >= 0; i--) {
+        number = number << 8 | at[i];
+    }
+    return number;
+}
+
+/* ---- The base station ---- */
+
+/* Puts the record of a place into the unit's memory. Returns burst_record's number: 13 where there is no such place. */
+static uint32_t send(const uint8_t *file, size_t file_len, size_t place)
+{
+    uint32_t mark, offset, size;
+    uint32_t number = burst_record(key, sizeof key, file, file_len, place, &mark, &offset, &size);
+    if (number != BURST_DONE) {
+        return number;
+    }
+    const uint8_t *entry = file + get(file + 20, 4) + ENTRY_BYTES * place;
+    memset(unit.nonce, 0, sizeof unit.nonce);
+    memcpy(unit.nonce, file + 8, 8);   /* the burst number */
+    memcpy(unit.nonce + 8, entry, 2);  /* the shot number */
+    memcpy(unit.entry, entry, ENTRY_BYTES);
+    memcpy(unit.buffer, file + offset, size);
+    unit.length = size;
+    return BURST_DONE;
+}
+
+/* ---- The playback unit ---- */
+
+/* Opens the record in the buffer, and shows its picture: here its length, its stamp and a sum of its bytes. Returns the number. */
+static uint32_t play(void)
+{
+    uint32_t sum = 0;
+    uint32_t number = icepole128_open_in_place(key, sizeof key, unit.nonce, sizeof unit.nonce, unit.entry, ENTRY_BYTES, unit.entry, 0,
+                                               unit.buffer, unit.length, unit.info, sizeof unit.info);
+    if (number != ICEPOLE_DONE) {
+        printf("refused with %" PRIu32 "\n", number);
+        return number;
+    }
+    size_t length = get(unit.info, 8);
+    for (size_t i = 0; i < length; i++) {
+        sum = 31 * sum + unit.buffer[i];
+    }
+    printf("shot %" PRIu64 ": %zu bytes, sum %08" PRIX32 ", stamp", get(unit.entry, 2), length, sum);
+    for (int i = 0; i < ICEPOLE128_SECRET_BYTES; i++) {
+        printf(" %02X", unit.info[8 + i]);
+    }
+    printf("\n");
+    return ICEPOLE_DONE;
+}
+
+int main(int argc, char **argv)
+{
+    static uint8_t file[64 * 1024];
+    FILE *card = argc == 2 ? fopen(argv[1], "rb") : NULL;
+    if (card == NULL) {
+        fprintf(stderr, "usage: playback BURST_FILE\n");
+        return 1;
+    }
+    size_t file_len = fread(file, 1, sizeof file, card);
+    fclose(card);
+    uint32_t number;
+    for (size_t place = 0; (number = send(file, file_len, place)) == BURST_DONE; place++) {
+        if (place == 1) {
+            unit.buffer[40] ^= 1;
+            if (play() != ICEPOLE_TAG_DIFFERS || send(file, file_len, place) != BURST_DONE) {
+                return 1;
+            }
+        }
+        if (play() != ICEPOLE_DONE) {
+            return 1;
+        }
+    }
+    if (number != BURST_NO_SUCH_PLACE) {
+        printf("the file is refused with %" PRIu32 "\n", number);
+        return 1;
+    }
+    return 0;
+}
