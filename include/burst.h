@@ -106,7 +106,8 @@ uint32_t burst_fetch(const uint8_t *key, size_t key_len,
                      uint32_t *mark, uint8_t *info, size_t info_len);
 
 /* Does all of check, then says where in the file the sealed record of a place stands: from file[offset], size bytes, which is the
- * picture's length and 32. Refusals 1, 12, 7, 13; then offset and size are 0. */
+ * picture's length and 32. Refusals 1, 12, 7, 13; then offset and size are 0. To open a record with icepole128_open_in_place (icepole.h)
+ * copy it out of the file: opened where it stands, it breaks the file. */
 uint32_t burst_record(const uint8_t *key, size_t key_len,
                       const uint8_t *file, size_t file_len, size_t place,
                       uint32_t *mark, uint32_t *offset, uint32_t *size);

@@ -113,16 +113,18 @@ uint32_t icepole256a_open(const uint8_t *key, size_t key_len, const uint8_t *non
                           uint8_t *info, size_t info_len);
 
 /*
- * Opening in place, for a unit with memory for one message: all of buffer is the sealed message. Where the tag agrees, writes the message,
- * buffer_len - OVERHEAD bytes, to the front of buffer, over its own ciphertext, and the message's length and the secret number to the
- * front of info, as opening does. The last OVERHEAD bytes of buffer stay as they were, and so do later bytes of info. Nothing is written
- * before the tag was found to agree: a refused call leaves the sealed message whole.
+ * Opening in place, for a unit with memory for one message: all of buffer is the sealed message. buffer_len is its length, not that of a
+ * longer array in which it stands: all of that would be another sealed message, and is refused with 7. Where the tag agrees, writes the
+ * message, buffer_len - OVERHEAD bytes, to the front of buffer, over the sealed secret number and the ciphertext, and its length and the
+ * secret number to the front of info, as opening does. The last OVERHEAD bytes of buffer stay as they were, and so do later bytes of info.
+ * Nothing is written before the tag was found to agree: a refused call leaves the sealed message whole.
  *
  * The number, the message and what goes into info are those of opening with an out that is long enough. A message is shorter than its
  * sealed message, so buffer always has room for it: 5 is for info alone.
  *
- * The sealed message is written over: keep it elsewhere, as on the card, where it is wanted again. Beside the slices a call needs less
- * than 2 KiB of stack, for a long message no more than for a short one, and takes no memory from the heap.
+ * The sealed message is written over: keep it elsewhere, as on the card, where it is wanted again, and open a message once (a second call
+ * takes what is in buffer for a sealed message). Beside the slices a call needs less than 2 KiB of stack, for a long message no more than
+ * for a short one, and takes no memory from the heap.
  */
 uint32_t icepole128_open_in_place(const uint8_t *key, size_t key_len, const uint8_t *nonce, size_t nonce_len,
                                   const uint8_t *ad1, size_t ad1_len, const uint8_t *ad2, size_t ad2_len,

@@ -7,7 +7,8 @@ use burst_calls::reading::{
 };
 use burst_calls::recording::Recording;
 use burst_calls::script::script_of;
-use reference::burst::layout::open_shot;
+use proved_calls::icepole::icepole128;
+use reference::burst::layout::{nonce, open_shot};
 use reference::burst::lister::list;
 use reference::burst::plain::PlainShot;
 use reference::burst::{Call, Entry, PlainBurst};
@@ -124,6 +125,31 @@ fn sealed_records_open_alone() {
         let (picture, stamp) = open_shot(&KEY, 60, shot, [&entry[..12], &[]], sealed).unwrap();
         let expected = burst.shots[usize::from(shot) - 1].clone();
         assert_eq!(Some((stamp, picture)), expected);
+    }
+}
+
+/// It also opens in place, within the file, whose other bytes stay. The file is
+/// then not what was recorded.
+#[test]
+fn sealed_records_open_in_place() {
+    let burst = burst_of(63, &[0, 3, 130, 0, 1, 128]);
+    let mut file = burst.file();
+    let parts = [0, 1, 2, 3].map(|place| burst_calls::record(&KEY, &file, place));
+    let index = file[file.len() - 32 - 12 * 4..].to_vec();
+    let mut expected = file.clone();
+    for (part, entry) in parts.iter().zip(index.chunks_exact(12)) {
+        let shot = Entry::from_bytes(entry).shot;
+        let (stamp, picture) = burst.shots[usize::from(shot) - 1].clone().unwrap();
+        let record = &mut file[part.offset..part.offset + part.length];
+        let (nonce, mut info) = (nonce(63, shot), [0; 24]);
+        let number = icepole128::open_in_place(&KEY, &nonce, entry, &[], record, &mut info);
+        assert_eq!(number, 0, "shot {shot}");
+        assert_eq!(info[..8], (picture.len() as u64).to_le_bytes());
+        assert_eq!(info[8..], stamp);
+        expected[part.offset..part.offset + picture.len()].copy_from_slice(&picture);
+        assert!(file == expected, "shot {shot}");
+        let refused = burst_calls::check(&KEY, &file, &mut [0; CHECK_INFO]);
+        assert_eq!(refused, (7, 2), "shot {shot}");
     }
 }
 

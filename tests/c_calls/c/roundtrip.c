@@ -1,5 +1,6 @@
-/* Round trips through the nine C calls, as the camera's firmware makes them:
-   whole messages under each variant, and messages in strips.
+/* Round trips through nine of the C calls, as the camera's firmware makes them:
+   whole messages under each variant, and messages in strips. Opening in place
+   has a program of its own.
    Every buffer is its own piece of the heap, exactly as long as it must be,
    so that a memory checker sees a call that reads or writes past it. */
 

@@ -178,7 +178,7 @@ impl Case {
     }
 
     /// `sealed` opens to this case's message and secret number, into buffers
-    /// that are longer by `spare` and `spare_info`.
+    /// that are longer by `spare` and `spare_info`. It opens in place too.
     pub fn check_opens(&self, sealed: &[u8], spare: usize, spare_info: usize) {
         let mut out = Lent::new(self.msg.len() + spare);
         let mut info = Lent::new(self.variant.info_bytes() + spare_info);
@@ -188,10 +188,12 @@ impl Case {
         info.check_written(&info_written(self.msg.len(), &self.secret), &|| {
             format!("info of {}", self.describe())
         });
+        self.check_opens_in_place(sealed, spare_info);
     }
 
-    /// `sealed` is refused with the number, and nothing is written.
+    /// `sealed` is refused with the number, and nothing is written; in place too.
     pub fn check_refused(&self, sealed: &[u8], expected: u32, what: &str) {
+        self.check_refused_in_place(sealed, expected, what);
         let mut out = Lent::new(sealed.len() + 5);
         let mut info = Lent::new(self.variant.info_bytes() + 3);
         let what = || format!("{what}, {}", self.describe());

@@ -5,6 +5,7 @@ const GUARD: usize = 64;
 
 /// A lent buffer between two guards. Every byte is filled with a pattern that
 /// is nowhere zero.
+#[derive(PartialEq)]
 pub struct Lent {
     length: usize,
     before: Vec<u8>,

@@ -1,6 +1,7 @@
 //! The C calls of the proved code, and what its tests share.
 
 pub mod case;
+pub mod in_place;
 pub mod lent;
 pub mod order;
 pub mod random;
@@ -48,4 +49,22 @@ pub fn open(
         Variant::Icepole256a => icepole256a::open,
     };
     call(key, nonce, ad1, ad2, sealed, out, info)
+}
+
+/// The variant's call of opening in place: its refusal number, 0 when done.
+pub fn open_in_place(
+    variant: Variant,
+    key: &[u8],
+    nonce: &[u8],
+    ad1: &[u8],
+    ad2: &[u8],
+    buffer: &mut [u8],
+    info: &mut [u8],
+) -> u32 {
+    let call = match variant {
+        Variant::Icepole128 => icepole128::open_in_place,
+        Variant::Icepole128a => icepole128a::open_in_place,
+        Variant::Icepole256a => icepole256a::open_in_place,
+    };
+    call(key, nonce, ad1, ad2, buffer, info)
 }

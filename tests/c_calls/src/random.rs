@@ -67,7 +67,7 @@ fn spoil_sealed(generator: &mut SplitMix64, sealed: &mut Vec<u8>) {
     spoil_length(generator, sealed);
 }
 
-/// A good case is sealed as the reference seals it, and opens again.
+/// A good case is sealed as the reference seals it, and opens again, in place too.
 pub fn good_case(generator: &mut SplitMix64, variant: Variant) {
     let case = case_of(generator, variant);
     let lent = case.clone();
@@ -92,17 +92,30 @@ pub fn seal_call(generator: &mut SplitMix64, variant: Variant) -> u32 {
     case.check_seal(buffer_length(generator, needed))
 }
 
-/// An opening of a sealed message that may be damaged, with lengths that may
-/// be wrong. Gives the number.
-pub fn open_call(generator: &mut SplitMix64, variant: Variant) -> u32 {
+/// A case and its sealed message, which may be damaged; lengths may be wrong.
+fn spoiled_case(generator: &mut SplitMix64, variant: Variant) -> (Case, Vec<u8>) {
     let mut case = case_of(generator, variant);
     let mut sealed = case.reference_seal(usize::MAX).unwrap();
     spoil_sealed(generator, &mut sealed);
     spoil_length(generator, &mut case.key);
     spoil_length(generator, &mut case.nonce);
     spoil_length(generator, &mut case.ad2);
+    (case, sealed)
+}
+
+/// An opening of a sealed message that may be damaged, with lengths that may
+/// be wrong. Gives the number.
+pub fn open_call(generator: &mut SplitMix64, variant: Variant) -> u32 {
+    let (case, sealed) = spoiled_case(generator, variant);
     let implied = sealed.len().saturating_sub(variant.overhead());
     let out_len = buffer_length(generator, implied);
     let info_len = buffer_length(generator, variant.info_bytes());
     case.check_open(&sealed, out_len, info_len)
+}
+
+/// The same in place.
+pub fn open_in_place_call(generator: &mut SplitMix64, variant: Variant) -> u32 {
+    let (case, sealed) = spoiled_case(generator, variant);
+    let info_len = buffer_length(generator, variant.info_bytes());
+    case.check_open_in_place(&sealed, info_len).0
 }

@@ -160,12 +160,17 @@ fn everything_empty_that_can_be() {
         assert_eq!(case.open(&sealed, &mut [], &mut []), 5);
         assert_eq!(case.seal(&mut []), 5);
         assert_eq!(case.open(&[], &mut [], &mut []), 6);
+        assert_eq!(case.open_in_place(&mut [], &mut []), 6);
         assert_eq!(
             c_calls::seal(variant, &[], &[], &[], &[], &[], &[], &mut []),
             1
         );
         assert_eq!(
             c_calls::open(variant, &[], &[], &[], &[], &[], &mut [], &mut []),
+            1
+        );
+        assert_eq!(
+            c_calls::open_in_place(variant, &[], &[], &[], &[], &mut [], &mut []),
             1
         );
     }

@@ -30,6 +30,7 @@ fn vectors() {
         };
         let mut sealed = vec![0; case.msg.len() + 32];
         assert_eq!((case.seal(&mut sealed), &sealed), (0, &vector), "{name}");
+        case.check_opens_in_place(&vector, 0);
         let (mut out, mut info) = (vec![0; case.msg.len()], vec![0; 24]);
         assert_eq!(case.open(&vector, &mut out, &mut info), 0, "{name}");
         assert_eq!((out, &info[8..]), (case.msg, &case.secret[..]), "{name}");

@@ -1,7 +1,7 @@
 //! Many random calls, good and bad, against the reference.
 
 use c_calls::for_each_variant;
-use c_calls::random::{good_case, open_call, seal_call};
+use c_calls::random::{good_case, open_call, open_in_place_call, seal_call};
 use reference::random::SplitMix64;
 use reference::sealing::Variant;
 
@@ -46,4 +46,18 @@ fn open_calls_good_and_bad(variant: Variant) {
     check_numbers_seen(&seen, &[0, 1, 2, 5, 6, 7]);
 }
 
-for_each_variant!(good_cases, seal_calls_good_and_bad, open_calls_good_and_bad);
+fn open_in_place_calls_good_and_bad(variant: Variant) {
+    let mut generator = SplitMix64::new(0xBAD916C);
+    let mut seen = [0; 8];
+    for _ in 0..CALLS_OF_EITHER_KIND {
+        seen[open_in_place_call(&mut generator, variant) as usize] += 1;
+    }
+    check_numbers_seen(&seen, &[0, 1, 2, 5, 6, 7]);
+}
+
+for_each_variant!(
+    good_cases,
+    seal_calls_good_and_bad,
+    open_calls_good_and_bad,
+    open_in_place_calls_good_and_bad,
+);

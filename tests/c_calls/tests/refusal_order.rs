@@ -6,26 +6,11 @@ use std::collections::HashSet;
 use c_calls::case::info_written;
 use c_calls::for_each_variant;
 use c_calls::lent::Lent;
-use c_calls::order::{associated_data, choices, first_to_hold, lengths, BYTES, OVER, ZEROS};
+use c_calls::order::{
+    associated_data, choices, first_to_hold, is_left_out, lengths, message, sealed_messages, BYTES,
+    LARGE, OVER, ZEROS,
+};
 use reference::sealing::{words, Variant, MAXIMUM};
-
-/// A message, short or above the maximum.
-fn message(over: bool) -> &'static [u8] {
-    if over {
-        &ZEROS
-    } else {
-        &BYTES[..10]
-    }
-}
-
-/// An output longer than this is looked at whole after the call, which takes
-/// time. It is then as long as needed and no longer, way 0, and the other
-/// conditions hold in one way only, way 1.
-const LARGE: usize = 64;
-
-fn is_left_out(out_len: usize, out_way: usize, other_ways: &[usize]) -> bool {
-    out_len > LARGE && (out_way != 0 || other_ways.iter().any(|way| *way > 1))
-}
 
 fn seal_in_the_order_1_2_3_4_5(variant: Variant) {
     let sizes = variant.sizes();
@@ -85,47 +70,6 @@ fn seal_in_the_order_1_2_3_4_5(variant: Variant) {
     }
     // All six are free of each other.
     assert_eq!(subsets.len(), 1 << 6);
-}
-
-/// A sealed message as it is lent to opening.
-struct Sealed {
-    bytes: Vec<u8>,
-    /// Its tag was changed.
-    changed: bool,
-    /// It was sealed with associated data above the maximum.
-    ad_over: bool,
-}
-
-/// Sealed messages: with a short message and with one above the maximum, each
-/// with its right tag and with a changed one; and some that are too short.
-fn sealed_messages(variant: Variant) -> Vec<Sealed> {
-    let sizes = variant.sizes();
-    let key = &BYTES[..sizes.key];
-    let nonce = &BYTES[..sizes.nonce];
-    let secret = &BYTES[..sizes.secret];
-    let mut all = Vec::new();
-    for ad_over in [false, true] {
-        let (ad1, ad2) = associated_data()[usize::from(ad_over)];
-        let ad = [ad1, ad2].concat();
-        let mut add = |bytes, changed| {
-            all.push(Sealed {
-                bytes,
-                changed,
-                ad_over,
-            })
-        };
-        for msg_over in [false, true] {
-            let right = words::seal(variant, key, nonce, secret, &ad, message(msg_over));
-            let mut wrong = right.clone();
-            *wrong.last_mut().unwrap() ^= 0x80;
-            add(right, false);
-            add(wrong, true);
-        }
-        for length in [0, 1, variant.overhead() - 1] {
-            add(BYTES[..length].to_vec(), false);
-        }
-    }
-    all
 }
 
 fn open_in_the_order_1_2_4_6_5_7(variant: Variant) {

@@ -4,8 +4,11 @@
 //! Here are the three variants and the refusals. `words` seals and opens on
 //! the words of the state. `bits` seals bit by bit as the paper numbers them,
 //! for short messages; it shares nothing with `words` but the variants' sizes.
+//! `in_place` opens byte by byte on one buffer (request N6).
 
 pub mod bits;
+pub mod bytes;
+pub mod in_place;
 pub mod words;
 
 /// The tag: words 0 and 1 of the state.
@@ -99,6 +102,35 @@ pub fn seal(
     Ok(words::seal(variant, key, nonce, secret, &ad, msg))
 }
 
+/// What opening tests before the tag, in the order 1, 2, 4, 6, 5.
+fn check_lengths(
+    variant: Variant,
+    key: &[u8],
+    nonce: &[u8],
+    ad_len: usize,
+    sealed_len: usize,
+    out_len: usize,
+    info_len: usize,
+) -> Result<(), u32> {
+    let sizes = variant.sizes();
+    if key.len() != sizes.key {
+        return Err(1);
+    }
+    if nonce.len() != sizes.nonce {
+        return Err(2);
+    }
+    if ad_len > MAXIMUM || sealed_len > MAXIMUM + variant.overhead() {
+        return Err(4);
+    }
+    if sealed_len < variant.overhead() {
+        return Err(6);
+    }
+    if out_len < sealed_len - variant.overhead() || info_len < variant.info_bytes() {
+        return Err(5);
+    }
+    Ok(())
+}
+
 /// Opening into an output of `out_len` and a further slice of `info_len`
 /// bytes: the message and the secret number, or the refusal number, in the
 /// order 1, 2, 4, 6, 5, 7.
@@ -112,22 +144,30 @@ pub fn open(
     out_len: usize,
     info_len: usize,
 ) -> Result<(Vec<u8>, Vec<u8>), u32> {
-    let sizes = variant.sizes();
-    if key.len() != sizes.key {
-        return Err(1);
-    }
-    if nonce.len() != sizes.nonce {
-        return Err(2);
-    }
-    if ad1.len() + ad2.len() > MAXIMUM || sealed.len() > MAXIMUM + variant.overhead() {
-        return Err(4);
-    }
-    if sealed.len() < variant.overhead() {
-        return Err(6);
-    }
-    if out_len < sealed.len() - variant.overhead() || info_len < variant.info_bytes() {
-        return Err(5);
-    }
+    let (ad_len, sealed_len) = (ad1.len() + ad2.len(), sealed.len());
+    check_lengths(variant, key, nonce, ad_len, sealed_len, out_len, info_len)?;
     let ad = [ad1, ad2].concat();
     words::open(variant, key, nonce, &ad, sealed).ok_or(7)
+}
+
+/// Opening in place, with a further slice of `info_len` bytes: the message's
+/// length and the secret number, or the refusal number, in the same order. The
+/// message goes to the front of the buffer; later bytes stay, and refused, all.
+///
+/// The buffer is its own output, which is long enough: 5 is for the further
+/// slice alone.
+pub fn open_in_place(
+    variant: Variant,
+    key: &[u8],
+    nonce: &[u8],
+    ad1: &[u8],
+    ad2: &[u8],
+    buffer: &mut [u8],
+    info_len: usize,
+) -> Result<(usize, Vec<u8>), u32> {
+    let (ad_len, length) = (ad1.len() + ad2.len(), buffer.len());
+    check_lengths(variant, key, nonce, ad_len, length, length, info_len)?;
+    let secret = in_place::open(variant, key, nonce, ad1, ad2, buffer);
+    let message_len = length - variant.overhead();
+    secret.map(|secret| (message_len, secret)).ok_or(7)
 }

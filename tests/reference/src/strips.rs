@@ -1,7 +1,8 @@
 //! Sealing in strips, for ICEPOLE-128 only (the scope paper, "Afterwards:
 //! 128a, 256a, strips, a lister"): start, then strips of message, then the tag.
 
-use crate::permutation::{words::p6, State, ZERO_STATE};
+use crate::permutation::{State, ZERO_STATE};
+use crate::sealing::bytes::{byte, end_block, xor_byte};
 use crate::sealing::{words, Variant, MAXIMUM, TAG_BYTES};
 
 /// The block of ICEPOLE-128.
@@ -19,24 +20,6 @@ pub struct StripState {
     /// The message bytes so far.
     pub count: u64,
     pub finished: bool,
-}
-
-/// Byte j of the state, in word w = x + 4y.
-fn byte(state: &State, j: usize) -> u8 {
-    let w = j / 8;
-    (state[w % 4][w / 4] >> (8 * (j % 8))) as u8
-}
-
-fn xor_byte(state: &mut State, j: usize, value: u8) {
-    let w = j / 8;
-    state[w % 4][w / 4] ^= u64::from(value) << (8 * (j % 8));
-}
-
-/// The frame bit and a 1 behind a block of `length` bytes, then P6.
-fn end_block(state: &State, length: usize, frame: bool) -> State {
-    let mut padded = *state;
-    xor_byte(&mut padded, length, if frame { 3 } else { 2 });
-    p6(padded)
 }
 
 /// Order: 1, 2, 3, 4, 5.

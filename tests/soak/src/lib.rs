@@ -8,7 +8,7 @@ use burst_calls::random_front::front_call;
 use burst_calls::random_list::{check_recording, random_recording, recording_of_any_bytes};
 use burst_calls::random_read::read_call;
 use burst_calls::recording::Recording;
-use c_calls::random::{good_case, open_call, seal_call};
+use c_calls::random::{good_case, open_call, open_in_place_call, seal_call};
 use c_calls::random_strips::{calls_on_state, random_list, random_state};
 use core_calls::numbers;
 use core_calls::random_log::log_call;
@@ -92,11 +92,12 @@ pub fn try_case(seed: u64, tally: &mut Tally) {
     let generator = &mut generator;
     let variant = Variant::ALL[generator.below(3)];
     let what = || format!("seed {seed}");
-    let read = match generator.below(26) {
+    let read = match generator.below(29) {
         0..4 => {
             good_case(generator, variant);
             tally.add("seal", 0);
-            return tally.add("open", 0);
+            tally.add("open", 0);
+            return tally.add("open_in_place", 0);
         }
         4..8 => return tally.add("seal", seal_call(generator, variant)),
         8..13 => return tally.add("open", open_call(generator, variant)),
@@ -105,7 +106,8 @@ pub fn try_case(seed: u64, tally: &mut Tally) {
         16..20 => return try_strips(generator, &what, tally),
         20 => return try_log(generator, &what, tally),
         21 => return try_rounds(generator, &what, tally),
-        22..25 => read_call(generator, &what),
+        22..25 => return tally.add("open_in_place", open_in_place_call(generator, variant)),
+        25..28 => read_call(generator, &what),
         _ => front_call(generator, &what),
     };
     for (call, number) in ["check", "fetch", "record", "list"].into_iter().zip(read) {

@@ -9,7 +9,7 @@ use soak::{run, try_case};
 /// no strip state counts them, and close's 11, which no list can meet that has
 /// one buffer. List's 12 is the text `front 12`. Whole says of a script whether all
 /// of it was performed, and agrees of a round log whether every round does.
-const EXPECTED: [(&str, &[u32]); 18] = [
+const EXPECTED: [(&str, &[u32]); 19] = [
     ("agrees", &[0, 1]),
     ("begin", &[0, 1, 3, 11]),
     ("check", &[0, 1, 5, 7, 12]),
@@ -21,6 +21,7 @@ const EXPECTED: [(&str, &[u32]); 18] = [
     ("keep", &[0, 3, 8, 9, 10, 11]),
     ("list", &[0, 5, 12]),
     ("open", &[0, 1, 2, 5, 6, 7]),
+    ("open_in_place", &[0, 1, 2, 5, 6, 7]),
     ("record", &[0, 1, 7, 12, 13]),
     ("rounds_back", &[0, 5, 20]),
     ("rounds_forward", &[0, 5, 20]),

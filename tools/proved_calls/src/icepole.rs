@@ -1,8 +1,8 @@
 //! The calls of include/icepole.h. Each returns its refusal number, 0 when done.
 
-/// A pair of calls: a module for the variant, with `seal` and `open`.
+/// The calls of a variant: a module with `seal`, `open` and `open_in_place`.
 macro_rules! variant {
-    ($variant:ident, $seal:ident, $open:ident) => {
+    ($variant:ident, $seal:ident, $open:ident, $open_in_place:ident) => {
         pub mod $variant {
             extern "C" {
                 fn $seal(
@@ -35,6 +35,21 @@ macro_rules! variant {
                     sealed_len: usize,
                     out: *mut u8,
                     out_len: usize,
+                    info: *mut u8,
+                    info_len: usize,
+                ) -> u32;
+
+                fn $open_in_place(
+                    key: *const u8,
+                    key_len: usize,
+                    nonce: *const u8,
+                    nonce_len: usize,
+                    ad1: *const u8,
+                    ad1_len: usize,
+                    ad2: *const u8,
+                    ad2_len: usize,
+                    buffer: *mut u8,
+                    buffer_len: usize,
                     info: *mut u8,
                     info_len: usize,
                 ) -> u32;
@@ -99,13 +114,55 @@ macro_rules! variant {
                     )
                 }
             }
+
+            pub fn open_in_place(
+                key: &[u8],
+                nonce: &[u8],
+                ad1: &[u8],
+                ad2: &[u8],
+                buffer: &mut [u8],
+                info: &mut [u8],
+            ) -> u32 {
+                // SAFETY: see the head of the package; it writes to buffer and info.
+                unsafe {
+                    $open_in_place(
+                        key.as_ptr(),
+                        key.len(),
+                        nonce.as_ptr(),
+                        nonce.len(),
+                        ad1.as_ptr(),
+                        ad1.len(),
+                        ad2.as_ptr(),
+                        ad2.len(),
+                        buffer.as_mut_ptr(),
+                        buffer.len(),
+                        info.as_mut_ptr(),
+                        info.len(),
+                    )
+                }
+            }
         }
     };
 }
 
-variant!(icepole128, icepole128_seal, icepole128_open);
-variant!(icepole128a, icepole128a_seal, icepole128a_open);
-variant!(icepole256a, icepole256a_seal, icepole256a_open);
+variant!(
+    icepole128,
+    icepole128_seal,
+    icepole128_open,
+    icepole128_open_in_place
+);
+variant!(
+    icepole128a,
+    icepole128a_seal,
+    icepole128a_open,
+    icepole128a_open_in_place
+);
+variant!(
+    icepole256a,
+    icepole256a_seal,
+    icepole256a_open,
+    icepole256a_open_in_place
+);
 
 extern "C" {
     fn icepole128_start(
