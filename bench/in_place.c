@@ -47,7 +47,7 @@ static uint32_t in_place(const struct variant *v, u8 *b, size_t n)
     return v->in_place(key, v->key, nonce, v->nonce, ad, AD, ad, 0, b, n + overhead(v), info, sizeof info);
 }
 
-static uint32_t none(const struct variant *v, u8 *b, size_t n) { return b + n > sealed + MOST || v != variants; }
+static uint32_t none(const struct variant *v, u8 *b, size_t n) { return v != variants || b != sealed || n > MOST; }
 
 typedef uint32_t call_t(const struct variant *, u8 *, size_t);
 

@@ -9,19 +9,19 @@
  * The unit has one buffer, as long as the longest record. icepole128_open_in_place opens a record where it lies: the picture then stands at
  * the front of the same buffer. A record that was damaged on its way is refused, nothing of it is shown, and the buffer keeps the bytes
  * that came. So it is here with the second record; the station sends it again.
+ *
+ * That the tag agrees says that a holder of the key sealed this record under this nonce and entry, and not that it is the one that was
+ * asked for: so the unit shows burst number and shot number with the picture. It has checked this record alone; that the whole file was
+ * accepted it has from the station.
  */
 #include <inttypes.h>
 #include <stdio.h>
-#include <stdlib.h>
 #include <string.h>
 
 #include "burst.h"
 #include "icepole.h"
 
-enum {
-    ENTRY_BYTES = 12,
-    LONGEST_RECORD = BURST_MAX_PICTURE_BYTES + ICEPOLE128_OVERHEAD_BYTES
-};
+enum { BURST_NUMBER_AT = 8, INDEX_OFFSET_AT = 20, ENTRY_BYTES = 12 }; /* of the file */
 
 /* The key of examples/firmware.c, which unit and station both have. */
 static const uint8_t key[ICEPOLE128_KEY_BYTES] = {0x1B, 0x70, 0xC2, 0x49, 0x9E, 0x05, 0xD8, 0x33,
@@ -31,13 +31,12 @@ static const uint8_t key[ICEPOLE128_KEY_BYTES] = {0x1B, 0x70, 0xC2, 0x49, 0x9E, 
 static struct {
     uint8_t nonce[ICEPOLE128_NONCE_BYTES];
     uint8_t entry[ENTRY_BYTES];
-    uint8_t buffer[LONGEST_RECORD]; /* the sealed record, then the picture */
+    uint8_t buffer[BURST_MAX_PICTURE_BYTES + ICEPOLE128_OVERHEAD_BYTES]; /* the sealed record, then the picture */
     size_t length;
     uint8_t info[ICEPOLE128_INFO_BYTES];
 } unit;
 
-/* ---- Numbers, low byte first ---- */
-
+/* A number, low byte first. */
 static uint64_t get(const uint8_t *at, int bytes)
 {
     uint64_t number = 0;
@@ -57,10 +56,13 @@ static uint32_t send(const uint8_t *file, size_t file_len, size_t place)
     if (number != BURST_DONE) {
         return number;
     }
-    const uint8_t *entry = file + get(file + 20, 4) + ENTRY_BYTES * place;
+    if (size > sizeof unit.buffer) { /* no record of an accepted file is longer. What comes over a link is tested like this */
+        return BURST_OUTPUT_TOO_SHORT;
+    }
+    const uint8_t *entry = file + get(file + INDEX_OFFSET_AT, 4) + ENTRY_BYTES * place;
     memset(unit.nonce, 0, sizeof unit.nonce);
-    memcpy(unit.nonce, file + 8, 8);   /* the burst number */
-    memcpy(unit.nonce + 8, entry, 2);  /* the shot number */
+    memcpy(unit.nonce, file + BURST_NUMBER_AT, 8);
+    memcpy(unit.nonce + 8, entry, 2); /* the shot number */
     memcpy(unit.entry, entry, ENTRY_BYTES);
     memcpy(unit.buffer, file + offset, size);
     unit.length = size;
@@ -83,7 +85,7 @@ static uint32_t play(void)
     for (size_t i = 0; i < length; i++) {
         sum = 31 * sum + unit.buffer[i];
     }
-    printf("shot %" PRIu64 ": %zu bytes, sum %08" PRIX32 ", stamp", get(unit.entry, 2), length, sum);
+    printf("burst %" PRIu64 ", shot %" PRIu64 ": %zu bytes, sum %08" PRIX32 ", stamp", get(unit.nonce, 8), get(unit.entry, 2), length, sum);
     for (int i = 0; i < ICEPOLE128_SECRET_BYTES; i++) {
         printf(" %02X", unit.info[8 + i]);
     }
@@ -93,18 +95,22 @@ static uint32_t play(void)
 
 int main(int argc, char **argv)
 {
-    static uint8_t file[64 * 1024];
-    FILE *card = argc == 2 ? fopen(argv[1], "rb") : NULL;
-    if (card == NULL) {
+    static uint8_t file[64 * 1024 + 1]; /* the station's; a file of examples/firmware.c has at most 64 KiB */
+    if (argc != 2) {
         fprintf(stderr, "usage: playback BURST_FILE\n");
         return 1;
     }
-    size_t file_len = fread(file, 1, sizeof file, card);
+    FILE *card = fopen(argv[1], "rb");
+    size_t file_len = card != NULL ? fread(file, 1, sizeof file, card) : 0;
+    if (card == NULL || ferror(card) || file_len == sizeof file) {
+        fprintf(stderr, "playback: the file cannot be read, or has more than 64 KiB\n");
+        return 1;
+    }
     fclose(card);
     uint32_t number;
     for (size_t place = 0; (number = send(file, file_len, place)) == BURST_DONE; place++) {
         if (place == 1) {
-            unit.buffer[40] ^= 1;
+            unit.buffer[40] ^= 1; /* a bit is changed on its way */
             if (play() != ICEPOLE_TAG_DIFFERS || send(file, file_len, place) != BURST_DONE) {
                 return 1;
             }

@@ -114,17 +114,22 @@ uint32_t icepole256a_open(const uint8_t *key, size_t key_len, const uint8_t *non
 
 /*
  * Opening in place, for a unit with memory for one message: all of buffer is the sealed message. buffer_len is its length, not that of a
- * longer array in which it stands: all of that would be another sealed message, and is refused with 7. Where the tag agrees, writes the
- * message, buffer_len - OVERHEAD bytes, to the front of buffer, over the sealed secret number and the ciphertext, and its length and the
- * secret number to the front of info, as opening does. The last OVERHEAD bytes of buffer stay as they were, and so do later bytes of info.
- * Nothing is written before the tag was found to agree: a refused call leaves the sealed message whole.
+ * longer array in which it stands: all of that would be another sealed message, and is refused (with 7, where it is not above the
+ * maximum). Where the tag agrees, writes the message, buffer_len - OVERHEAD bytes, to the front of buffer, over what stood there, and its
+ * length and the secret number to the front of info, as opening does. The last OVERHEAD bytes of buffer stay as they were, and so do later
+ * bytes of info. Nothing is written before the tag was found to agree: a refused call leaves the sealed message whole.
  *
  * The number, the message and what goes into info are those of opening with an out that is long enough. A message is shorter than its
  * sealed message, so buffer always has room for it: 5 is for info alone.
  *
  * The sealed message is written over: keep it elsewhere, as on the card, where it is wanted again, and open a message once (a second call
- * takes what is in buffer for a sealed message). Beside the slices a call needs less than 2 KiB of stack, for a long message no more than
- * for a short one, and takes no memory from the heap.
+ * takes what is in buffer for a sealed message). Show buffer only as far as the length in info says: behind the message stand bytes of the
+ * sealed message, which are no secret. When message and secret number are no longer wanted, write zeros over buffer and info in a way that
+ * the compiler does not leave out (explicit_bzero).
+ *
+ * Beside the slices a call takes less than 2 KiB of stack, for a long message no more than for a short one, and no memory from the heap.
+ * In a program that is linked dynamically, the first call may take some KiB more while the system looks memcpy up; linked with -static or
+ * -Wl,-z,now it does not.
  */
 uint32_t icepole128_open_in_place(const uint8_t *key, size_t key_len, const uint8_t *nonce, size_t nonce_len,
                                   const uint8_t *ad1, size_t ad1_len, const uint8_t *ad2, size_t ad2_len,

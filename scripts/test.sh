@@ -83,8 +83,7 @@ run() {
 
 c="gcc -std=c11 -Wall -Wextra -Werror -pedantic -g"
 
-# The paths of libraries.
-libraries() {
+library_paths() {
     printf 'target/staticlib/%s ' "$@"
 }
 
@@ -92,7 +91,7 @@ libraries() {
 # buffers of the exact size on the heap, so that valgrind sees the library read or write beside them.
 c_program() {
     name=$(basename "$1" .c)
-    $c -Iinclude "$1" $(libraries $2) -o "build/$name" || return 1
+    $c -Iinclude "$1" $(library_paths $2) -o "build/$name" || return 1
     shift 2
     run "build/$name" "$@" || return 1
     if command -v valgrind >/dev/null; then
@@ -111,7 +110,7 @@ c_sanitized() {
         echo "gcc has no sanitizers here: $name did not run"
         return 0
     fi
-    $c $sanitizers -Iinclude "$1" $(libraries $2) -o "build/$name" || return 1
+    $c $sanitizers -Iinclude "$1" $(library_paths $2) -o "build/$name" || return 1
     shift 2
     run "build/$name" "$@"
 }
@@ -211,7 +210,29 @@ no_division() {
 
 # What the libraries want of the C library: memcpy and memset, and so no memory from the heap.
 wanted_names() {
-    names=$(nm -u "$@" | awk '$1 == "U" && $2 != "memcpy" && $2 != "memset" {print $2}') && [ -z "$names" ] || { echo "wanted too: $names"; return 1; }
+    if ! command -v nm >/dev/null; then
+        echo "nm is not here: no look at what the libraries want"
+        return 0
+    fi
+    for file in "$@"; do
+        nm "$file" >build/nm.log && grep -q ' [Tt] ' build/nm.log || { echo "$file has no code to look through"; return 1; }
+        ! awk 'NF == 2 && $2 != "memcpy" && $2 != "memset"' build/nm.log | grep . || { echo "$file wants more"; return 1; }
+    done
+}
+
+# The same look at a C function that takes memory, by a name that must be there or may be.
+heap_seen() {
+    command -v nm >/dev/null || { wanted_names; return; }
+    for kind in '' '__attribute__((weak))'; do
+        echo "extern $kind void *malloc(unsigned long); void *f(void) { return malloc(3); }" | gcc -O2 -x c -c - -o build/heap.o || return 1
+        wanted_names build/heap.o | grep -q 'wants more$' || { echo "a call of malloc passes"; return 1; }
+    done
+}
+
+# The bytes of stack that a call takes, whatever the length of its message: at most so many.
+stack() {
+    gcc -std=c11 -D_POSIX_C_SOURCE=200809L -Wall -Wextra -Werror -O2 -Wl,-z,now -Iinclude bench/stack.c target/staticlib/libicepole_c.a -o build/stack || return 1
+    build/stack "$1"
 }
 
 # The same look at two short C functions that divide.
@@ -298,6 +319,8 @@ step "instructions of rounds back and forward" rounds_counted
 step "no division in the libraries" no_division target/staticlib/libicepole_c.a target/staticlib/libburst_c.a target/staticlib/libcore_c.a
 step "and one that is there is seen" division_seen
 step "memcpy and memset of the C library alone" wanted_names target/staticlib/libicepole_c.a target/staticlib/libburst_c.a target/staticlib/libcore_c.a
+step "and what is more is seen" heap_seen
+step "stack of opening in place" stack 2048
 rust_tests tests
 rust_tests tools/burst
 step "make tables" tables

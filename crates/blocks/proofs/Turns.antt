@@ -160,16 +160,6 @@ module _ {c d : Bytes} {i : ℕ → ℕ} {n : ℕ} (a : Part c i n d) (at : ℕ)
         (f .last (bytesOf s) (drop at d) (length-bytes s) (last-left r h) ∙ ap (λ (b : Bytes). bytesOf s ⊕₈ b) (sym all-left) ∙ sym (append-nil _)) eo .1
         ∙ ap (putBytes o to) (take-all (at + (n - at)) (F (bytesOf s₀) d) (omega arith))
 
--- ---- in place
--- b₁ is b with at bytes written at its front. A block of it that begins behind them is copied: it is still that of b
-pub copied : (block b z : Bytes) (at i k j : ℕ) {b₁ block₁ : Bytes} → b₁ ≡ putBytes b 0 (take at z) → block₁ ≡ putBytes block 0 (take j (drop i b₁)) → j ≡ k
-    → at ≤ i → i + k ≤ length b → k ≤ length block → take k block₁ ≡ take k (drop i b)
-copied block b z at i k j {b₁} {block₁} eb e ej h hb hk =
-    let l : length (take at z) ≤ at = rw length-take (omega arith) in
-    let d : drop i b₁ ≡ drop i b = ap (drop i) eb ∙ behind-put b 0 (take at z) i (omega arith) (omega arith) in
-    ap (take k) (e ∙ ap₂ (λ (j : ℕ) (d : Bytes). putBytes block 0 (take j d)) ej d)
-    ∙ take-put block 0 (take k (drop i b)) k (rw (length-part b i k hb) (omega arith)) (omega arith)
-
 -- a block of two parts that lies in one of them
 pub in-first : (f g : Bytes) (at r : ℕ) → at + r ≤ length f → take r (drop at (f ++ g)) ≡ take r (drop at f)
 in-first f g at r h =
@@ -179,3 +169,13 @@ pub in-second : (f g : Bytes) (at r : ℕ) → length f ≤ at → take r (drop 
 in-second f g at r h =
     let e : at ≡ length f + (at - length f) = omega arith in
     ap (λ (i : ℕ). take r (drop i (f ++ g))) e ∙ ap (take r) (drop-append-add f g (at - length f))
+
+-- ---- in place
+-- b₁ is b with at bytes written at its front. A block of it that begins behind them is copied: it is still that of b
+pub copied : (block b z : Bytes) (at i k j : ℕ) {b₁ block₁ : Bytes} → b₁ ≡ putBytes b 0 (take at z) → block₁ ≡ putBytes block 0 (take j (drop i b₁)) → j ≡ k
+    → at ≤ i → i + k ≤ length b → k ≤ length block → take k block₁ ≡ take k (drop i b)
+copied block b z at i k j {b₁} {block₁} eb e ej h hb hk =
+    let l : length (take at z) ≤ at = rw length-take (omega arith) in
+    let d : drop i b₁ ≡ drop i b = ap (drop i) eb ∙ behind-put b 0 (take at z) i (omega arith) (omega arith) in
+    ap (take k) (e ∙ ap₂ (λ (j : ℕ) (d : Bytes). putBytes block 0 (take j d)) ej d)
+    ∙ take-put block 0 (take k (drop i b)) k (rw (length-part b i k hb) (omega arith)) (omega arith)

@@ -362,8 +362,8 @@ pub fn decrypt_message(s: &mut State, n: usize, c: &[u8], from: usize, l: usize,
     decrypt_bytes(s, c, from + at, l - at, out, at);
 }
 
-// The same where the ciphertext stands in out itself, here b: the message is put at the front of b. Each block is copied before its message is put, and that ends at
-// or before the next block, since the message never runs ahead of its ciphertext.
+// The same where the ciphertext stands in out itself, here b. Each block is copied before its message is put. The message stands `from` bytes before its ciphertext,
+// so that a block's message ends where the next block begins, or before.
 pub fn decrypt_in_place(s: &mut State, n: usize, b: &mut [u8], from: usize, l: usize)
     requires { ⌜ (0 < n) × (n < stateWords) × (from + l ≤ length (now b)) ⌝ }
     ensures { λ _. ⌜ now (b .exit) ≡ putBytes (now (b .entry)) 0 (decrypt (8 * n) (bytesOf (now (s .entry))) (take l (drop from (now (b .entry))))) ⌝ }

@@ -50,10 +50,10 @@ use Rattle.round_log.specs.declared.Verdict.{Verdict}
 use Rattle.round_log.specs.declared.Verdict.the-variants.{Agrees, Differs, Refused}
 use Rattle.round_log.proofs.Verdicts.{Says, says}
 use Rattle.claims.specs.RoundLogs.{LogOf}
-use Rattle.claims.specs.Demand1.{Refusal, _on_, FirstOf, SealNumber, Seal, orderToOpen, orderOfOpen, OpenNumber, NoRoomToOpen, Verify, Open, OpenCall}
+use Rattle.claims.specs.Demand1.{Refusal, _on_, FirstOf, SealNumber, Seal, orderOfOpen, orderOfVerify, OpenNumber, NoRoomToOpen, Verify, Open, OpenCall}
 use Rattle.claims.specs.Demand1.{OpenInPlace, OpenInPlaceCall, orderOfStart, StartNumber, Start, orderOfStrip, Strip, orderOfEnd, End, StartCall, StripCall, EndCall, Begin, Keep, Drop, Close}
 use Rattle.claims.specs.Demand1.{InList, orderOfCheck, Check, orderAtPlace, Record, NoRoomToFetch, Fetch, CheckCall, FetchCall, Print, CheckLog, Drive, RunRounds, Demand1}
-use Rattle.claims.proofs.Orders.{Tells, differs, less, at-most, fails, holds, either, first, row, by-tests, NoZero, behind, then-tests}
+use Rattle.claims.proofs.Orders.{Tells, differs, less, at-most, fails, holds, either, first, Row, row, by-tests, NoZero, behind, then-tests}
 
 one-more : (n : ℕ) → suc n ≢ 0
 one-more n e = omega arith
@@ -83,32 +83,25 @@ module _ (v : Variant) (key nonce secret ad m out : Bytes) where
 implied : (c s : ℕ) → Tells (ltb maxLength (c - s)) (maxLength + s < c)
 implied c s = let t = less maxLength (c - s) in record { yes = λ h. let g = t .yes h in omega arith; no′ = λ h g. t .no′ h (omega arith) }
 
--- opening, whatever says that there is no room, and that the tag differs
+-- opening, as far as lengths decide
+abbrev rowsByLengths : Variant → (k n a c : ℕ) → List Row
+rowsByLengths v k n a c =
+    row 1 (differs k (sizes v .key))
+    ∷ row 2 (differs n (sizes v .nonce))
+    ∷ row 4 (either (less maxLength a) (implied c (sizes v .secret + tagLength)))
+    ∷ row 6 (less c (sizes v .secret + tagLength))
+    ∷ []
+
+-- whatever says that there is no room, and that the tag differs
 opening : (v : Variant) (k n a c : ℕ) (fits agrees : Bool) (noRoom tagDiffers : Type 0) → Tells (not fits) noRoom → Tells (not agrees) tagDiffers
     → FirstOf (openNumber (sizes v) k n a c fits agrees) (orderOfOpen v k n a c noRoom tagDiffers)
 unfolding openNumber
-opening v k n a c fits agrees noRoom tagDiffers r t =
-    by-tests
-    (row 1 (differs k (sizes v .key))
-    ∷ row 2 (differs n (sizes v .nonce))
-    ∷ row 4 (either (less maxLength a) (implied c (sizes v .secret + tagLength)))
-    ∷ row 6 (less c (sizes v .secret + tagLength))
-    ∷ row 5 r
-    ∷ row 7 t
-    ∷ [])
+opening v k n a c fits agrees noRoom tagDiffers r t = by-tests (rowsByLengths v k n a c ++ (row 5 r ∷ row 7 t ∷ []))
 
--- the same where the answer always fits: there is no 5
-opening-fits : (v : Variant) (k n a c : ℕ) (agrees : Bool)
-    → FirstOf (openNumber (sizes v) k n a c true agrees) (orderToOpen v k n a c ++ ((7 on (agrees ≡ false)) ∷ []))
+-- where the answer always fits
+opening-fits : (v : Variant) (k n a c : ℕ) (agrees : Bool) → FirstOf (openNumber (sizes v) k n a c true agrees) (orderOfVerify v k n a c (agrees ≡ false))
 unfolding openNumber
-opening-fits v k n a c agrees =
-    by-tests
-    (row 1 (differs k (sizes v .key))
-    ∷ row 2 (differs n (sizes v .nonce))
-    ∷ row 4 (either (less maxLength a) (implied c (sizes v .secret + tagLength)))
-    ∷ row 6 (less c (sizes v .secret + tagLength))
-    ∷ row 7 (fails agrees)
-    ∷ [])
+opening-fits v k n a c agrees = by-tests (rowsByLengths v k n a c ++ (row 7 (fails agrees) ∷ []))
 
 never : Tells (not true) ⊥
 never = record { yes = λ h. clash true refl (sym h); no′ = λ _ x. x }
@@ -161,7 +154,7 @@ module _ (v : Variant) (key nonce ad c : Bytes) where
         let t = one-fails (leb (infoLength v) (length info)) (fitsOutput v c c) (length info < infoLength v) (NoRoomToOpen v c c) (short v info) (narrow v c c) in
         record { yes = λ h. ⊎-elim (λ (x : length info < infoLength v). x) (λ (x : NoRoomToOpen v c c). absurd (omega arith)) (t .yes h); no′ = λ h x. t .no′ h (inl x) }
 
-    opens-in-place-in-c : OpenInPlaceCall v key nonce ad c info
+    pub opens-in-place-in-c : OpenInPlaceCall v key nonce ad c info
     unfolding openAnswer openOutput openRefusal openCallInfo
     opens-in-place-in-c = record {
       order = opening v (length key) (length nonce) (length ad) (length c) (fitsBoth v key nonce ad c c info) tag _ (tag ≡ false) short-alone (fails tag);

@@ -45,7 +45,7 @@ module _ (v : Variant) where
         (seal-0 (sizes v) (length k) (length n) (length s) (length a) (length m) (length out) (w .key-length) (w .nonce-length) (w .secret-length) (w .associated-length) (w .message-length) r) in
         (simp z, simp z)
 
-    is-length : openLength v (sealed (sizes v) k n s a m) ≡ length m
+    pub is-length : openLength v (sealed (sizes v) k n s a m) ≡ length m
     is-length = rw length-of (omega arith)
 
     agree : tagAgrees (sizes v) k n a (sealed (sizes v) k n s a m) ≡ true
@@ -135,7 +135,7 @@ module _ (v : Variant) where
           bytes = λ hc. (secret-bytes (sizes v) k n a c hc, message-bytes (sizes v) k n a c hc);
         }
 
-  pub withheld : (k n a c : Bytes) (fits : Bool) → (openRefusal v k n a c fits ≡ 0 → ⊥)
+  withheld : (k n a c : Bytes) (fits : Bool) → (openRefusal v k n a c fits ≡ 0 → ⊥)
       → (openAnswer v k n a c fits ≡ openedAnswer (openRefusal v k n a c fits) 0 []) × ((out : Bytes) → openOutput v k n a c fits out ≡ out)
   unfolding openAnswer openOutput
   withheld k n a c fits e = let z = ne-eqb (openRefusal v k n a c fits) 0 e in (simp z, λ out. simp z)

@@ -1,15 +1,15 @@
 -- Change request N6: opening in place, by what is known of opening into an output that holds the sealed message.
 -- Assumes nothing.
 use mathlib.Core.Bool.{Bool, true, false, _&&_}
-use mathlib.Core.List.{[], _∷_, _++_}
-use mathlib.Core.Logic.{_≢_}
+use mathlib.Core.List.{_++_}
+use mathlib.Core.Logic.{⊎-elim, _≢_}
 use mathlib.Core.Path.{_≡_, refl, sym, ap, _∙_}
-use Prim.Native.Nat.{ℕ, _+_, _≤_}
+use Prim.Native.Nat.{ℕ, _≤_, _<_}
 use native.Mathlib.Omega.{arith}
-use borrow.Author.Tests.{le-leb, ne-eqb}
+use borrow.Author.Tests.{le-leb}
 use lib.Dec.{leb}
 use lib.ListN.{length, take, drop}
-use Rattle.bits.proofs.Cases.{zero-or-not}
+use Rattle.bits.proofs.Cases.{le-or-lt, zero-or-not}
 use Rattle.bytes_le.specs.Bytes.{Bytes}
 use Rattle.bytes_le.proofs.Laws.{put-front, take-put}
 use Rattle.icepole.specs.declared.Variant.{Variant}
@@ -17,12 +17,12 @@ use Rattle.icepole.specs.declared.Opened.{Opened}
 use Rattle.icepole.specs.Variants.{sizes}
 use Rattle.icepole.specs.Answers.{fitsOutput, openAnswer, openLength, openOutput, openRefusal, tagAgrees}
 use Rattle.icepole_c.specs.Calls.{fitsBoth, infoAfter, infoLength, openCallInfo, openCallOutput, openCallRefusal}
-use Rattle.icepole_c.proofs.Returned.{fits-itself}
-use Rattle.claims.specs.Demand1.{_on_, orderToOpen}
+use Rattle.icepole.proofs.Answers.{fits-itself}
+use Rattle.claims.specs.Demand1.{orderOfVerify}
 use Rattle.claims.specs.Demand2.{GenuineMessage}
 use Rattle.claims.specs.InPlace.{BesideOpening, BesideOpeningInC, InPlace, inPlaceAnswer, inPlaceBuffer}
-use Rattle.claims.proofs.Demand1.{opens-in-place}
-use Rattle.claims.proofs.Demand2.{genuine, length-of, open-does, withheld}
+use Rattle.claims.proofs.Demand1.{opens-in-place, opens-in-place-in-c}
+use Rattle.claims.proofs.Demand2.{genuine, is-length, open-does}
 use Rattle.claims.proofs.Orders.{not-given}
 
 module _ (v : Variant) (key nonce ad c : Bytes) where
@@ -37,11 +37,11 @@ module _ (v : Variant) (key nonce ad c : Bytes) where
   only z = let g = genuine v key nonce ad c true (sym number-is ∙ z) in (g, g .output c ∙ put-front c (g .message))
 
   refused : inPlaceAnswer v key nonce ad c .refusal ≢ 0 → inPlaceBuffer v key nonce ad c ≡ c
-  refused z = withheld v key nonce ad c true (λ e. z (number-is ∙ e)) .1 c
+  refused z = opens-in-place v key nonce ad c .refused z .1
 
   never-5 : inPlaceAnswer v key nonce ad c .refusal ≢ 5
   never-5 =
-      not-given 5 _ (orderToOpen v (length key) (length nonce) (length ad) (length c) ++ ((7 on (tagAgrees (sizes v) key nonce ad c ≡ false)) ∷ []))
+      not-given 5 _ (orderOfVerify v (length key) (length nonce) (length ad) (length c) (tagAgrees (sizes v) key nonce ad c ≡ false))
       (λ e. omega arith) (λ e. omega arith, (λ e. omega arith, (λ e. omega arith, (λ e. omega arith, (λ e. omega arith, tt)))))
       (opens-in-place v key nonce ad c .order)
 
@@ -52,9 +52,7 @@ module _ (v : Variant) (key nonce ad c : Bytes) where
       ap (take n) (ap (λ (b : Bool). openOutput v key nonce ad c b out) e ∙ g .output out) ∙ take-put out 0 (g .message) n (omega arith) (omega arith)
 
   long : (fits : Bool) (g : GenuineMessage v key nonce ad c fits) → openLength v c ≡ length (g .message)
-  long fits g =
-      let e : length c ≡ sizes v .secret + (length (g .message) + 16) = ap length (g .sealed-is) ∙ length-of v key nonce (g .secret) ad (g .message) (g .within) in
-      omega arith
+  long fits g = ap (openLength v) (g .sealed-is) ∙ is-length v key nonce (g .secret) ad (g .message) (g .within)
 
   module _ (out : Bytes) (h : openLength v c ≤ length out) where
     room : fitsOutput v c out ≡ true
@@ -73,8 +71,7 @@ module _ (v : Variant) (key nonce ad c : Bytes) where
 
     nothing : inPlaceAnswer v key nonce ad c .refusal ≢ 0 → Fronts
     nothing z =
-        let x : openRefusal v key nonce ad c true ≢ 0 = λ e. z (number-is ∙ e) in
-        let l : inPlaceAnswer v key nonce ad c .length ≡ 0 = ap (λ (r : Opened). r .length) (withheld v key nonce ad c true x .0) ∙ simp (ne-eqb _ 0 x) in
+        let l : inPlaceAnswer v key nonce ad c .length ≡ 0 = ap (λ (r : Opened). r .length) (opens-in-place v key nonce ad c .refused z .0) in
         rw l refl
 
     alike : BesideOpening v key nonce ad c out
@@ -114,6 +111,11 @@ module _ (v : Variant) (key nonce ad c : Bytes) where
         ap (λ (b : Bool). infoAfter (openAnswer v key nonce ad c b) (sizes v .secret) info) b,
       )
 
+  five-in-c : (info : Bytes) → openCallRefusal v key nonce ad c c info ≡ 5 → length info < infoLength v
+  five-in-c info e =
+      ⊎-elim (λ (h : infoLength v ≤ length info). absurd (never-5 (sym (in-c info h .0) ∙ e))) (λ (h : length info < infoLength v). h)
+      (le-or-lt (infoLength v) (length info))
+
 pub in-place : InPlace
 in-place = record {
   opens = λ v key nonce secret ad m w.
@@ -125,5 +127,7 @@ in-place = record {
   never-5 = never-5;
   fits = fits-itself;
   in-c = in-c;
+  five-in-c = five-in-c;
+  refused-in-c = λ v key nonce ad c info. opens-in-place-in-c v key nonce ad c info .refused;
   alike-in-c = λ v key nonce ad c out info h. alike-in-c v key nonce ad c out h info;
 }

@@ -90,17 +90,22 @@ module _ (v : Variant) (key nonce secret ad m out : Bytes) where
     -- what the C call returns
     pub returned : sealRefusal v key nonce secret ad m out ≡ sealing .refusal
 
--- ---- opening: 1, 2, 4, 6, 5, 7. By the lengths of key, nonce, associated data and sealed message; when what is lent has no room, and when the tag differs
-abbrev pub orderToOpen : Variant → (k n a c : ℕ) → List Refusal
-orderToOpen v k n a c =
+-- ---- opening: 1, 2, 4, 6, 5, 7. By the lengths of key, nonce, associated data and sealed message: 1, 2, 4, 6
+abbrev pub orderByLengths : Variant → (k n a c : ℕ) → List Refusal
+orderByLengths v k n a c =
     (1 on (k ≢ sizes v .key))
     ∷ (2 on (n ≢ sizes v .nonce))
     ∷ (4 on ((maxLength < a) ⊎ (maxLength + (sizes v .secret + tagLength) < c)))
     ∷ (6 on (c < sizes v .secret + tagLength))
     ∷ []
 
+-- then 5, where what is lent has no room, and 7, where the tag differs
 abbrev pub orderOfOpen : Variant → (k n a c : ℕ) (noRoom differs : Type 0) → List Refusal
-orderOfOpen v k n a c noRoom differs = orderToOpen v k n a c ++ ((5 on noRoom) ∷ (7 on differs) ∷ [])
+orderOfOpen v k n a c noRoom differs = orderByLengths v k n a c ++ ((5 on noRoom) ∷ (7 on differs) ∷ [])
+
+-- where nothing is lent that could be too short, in verifying and in opening in place: 1, 2, 4, 6, 7
+abbrev pub orderOfVerify : Variant → (k n a c : ℕ) (differs : Type 0) → List Refusal
+orderOfVerify v k n a c differs = orderByLengths v k n a c ++ ((7 on differs) ∷ [])
 
 -- what `open_number` answers, which is told whether there is room and knows no tag
 abbrev pub OpenNumber : Type 0
@@ -114,23 +119,22 @@ module _ (v : Variant) (key nonce ad c : Bytes) where
   abbrev TagDiffers : Type 0
   TagDiffers = tagAgrees (sizes v) key nonce ad c ≡ false
 
-  -- verifying, which writes nothing: 1, 2, 4, 6, 7
+  -- verifying, which writes nothing
   abbrev verifying : Opened
   verifying = openAnswer v key nonce ad c true
 
   pub record Verify : Type 0 where
-    pub order : FirstOf (verifying .refusal) (orderToOpen v (length key) (length nonce) (length ad) (length c) ++ ((7 on TagDiffers) ∷ []))
+    pub order : FirstOf (verifying .refusal) (orderOfVerify v (length key) (length nonce) (length ad) (length c) TagDiffers)
     pub refused : verifying .refusal ≢ 0 → verifying ≡ record { refusal = verifying .refusal; mark = 0; length = 0; secret = replicate maxSecret 0 }
 
-  -- opening in place, of the buffer c: 1, 2, 4, 6, 7
+  -- opening in place, of the buffer c
   pub record OpenInPlace : Type 0 where
-    pub order :
-        FirstOf (inPlaceAnswer v key nonce ad c .refusal) (orderToOpen v (length key) (length nonce) (length ad) (length c) ++ ((7 on TagDiffers) ∷ []))
+    pub order : FirstOf (inPlaceAnswer v key nonce ad c .refusal) (orderOfVerify v (length key) (length nonce) (length ad) (length c) TagDiffers)
     pub refused : inPlaceAnswer v key nonce ad c .refusal ≢ 0
         → (inPlaceAnswer v key nonce ad c ≡ record { refusal = inPlaceAnswer v key nonce ad c .refusal; mark = 0; length = 0; secret = replicate maxSecret 0 })
         × (inPlaceBuffer v key nonce ad c ≡ c)
 
-  -- in C, with 5 for the info
+  -- in C, with 5 for the info alone
   module _ (info : Bytes) where
     abbrev openingInPlaceC : ℕ
     openingInPlaceC = openCallRefusal v key nonce ad c c info

@@ -9,7 +9,7 @@ use mathlib.Core.Bool.{true}
 use mathlib.Core.List.{_++_}
 use mathlib.Core.Logic.{_≢_}
 use mathlib.Core.Path.{_≡_}
-use Prim.Native.Nat.{_≤_}
+use Prim.Native.Nat.{_≤_, _<_}
 use lib.ListN.{length, take, drop}
 use Rattle.bytes_le.specs.Bytes.{Bytes}
 use Rattle.blocks.specs.Sealing.{sealed}
@@ -57,12 +57,17 @@ pub record InPlace : Type 0 where
   pub alike : (v : Variant) (key nonce ad c out : Bytes) → openLength v c ≤ length out → BesideOpening v key nonce ad c out
   -- ---- "a refusal leaves the sealed bytes"
   pub refused : (v : Variant) (key nonce ad c : Bytes) → inPlaceAnswer v key nonce ad c .refusal ≢ 0 → inPlaceBuffer v key nonce ad c ≡ c
-  -- ---- "The output check (5) cannot occur here": 5 is never the number, for the message fits into the buffer of every c
+  -- ---- "The output check (5) cannot occur here": 5 is never the number, for the message that c implies always fits into c
   pub never-5 : (v : Variant) (key nonce ad c : Bytes) → inPlaceAnswer v key nonce ad c .refusal ≢ 5
   pub fits : (v : Variant) (c : Bytes) → fitsOutput v c c ≡ true
-  -- ---- in C: where info is long enough, the same number and buffer, and length and secret number go into info
+  -- ---- in C: where info is long enough, the same number and buffer; length and secret number go to the front of info where the number is 0, else it stays
   pub in-c : (v : Variant) (key nonce ad c info : Bytes) → infoLength v ≤ length info
       → (openCallRefusal v key nonce ad c c info ≡ inPlaceAnswer v key nonce ad c .refusal)
       × (openCallOutput v key nonce ad c c info ≡ inPlaceBuffer v key nonce ad c)
       × (openCallInfo v key nonce ad c c info ≡ infoAfter (inPlaceAnswer v key nonce ad c) (sizes v .secret) info)
+  -- 5 is for info alone
+  pub five-in-c : (v : Variant) (key nonce ad c info : Bytes) → openCallRefusal v key nonce ad c c info ≡ 5 → length info < infoLength v
+  -- a refusal leaves the sealed bytes, and info, also where info is too short
+  pub refused-in-c : (v : Variant) (key nonce ad c info : Bytes) → openCallRefusal v key nonce ad c c info ≢ 0
+      → (openCallOutput v key nonce ad c c info ≡ c) × (openCallInfo v key nonce ad c c info ≡ info)
   pub alike-in-c : (v : Variant) (key nonce ad c out info : Bytes) → openLength v c ≤ length out → BesideOpeningInC v key nonce ad c out info

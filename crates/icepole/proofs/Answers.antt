@@ -5,7 +5,7 @@ use mathlib.Core.Bool.{Bool, true, false, cond, not}
 use mathlib.Core.List.{[], _++_}
 use Prim.Native.Nat.{ℕ, zero, suc, _+_, _-_, _*_, _/_, _≤_, _<_}
 use native.Mathlib.Omega.{arith}
-use borrow.Author.Tests.{leb-true, ne-eqb}
+use borrow.Author.Tests.{le-leb, leb-true, ne-eqb}
 use lib.Dec.{leb}
 use lib.ListN.{length, replicate, take, drop, length-append}
 use Rattle.bytes_le.specs.Bytes.{Bytes, putBytes, same}
@@ -125,6 +125,10 @@ pub answer-by : (v : Variant) (q : Sizes) → q ≡ sizes v → (k n a c o : Byt
     → (r : Opened) → r ≡ openAnswer v k n a c b → r ≡ openAnswer v k n a c (fitsOutput v c o)
 answer-by v q eq k n a c o b eb r er =
     er ∙ ap (openAnswer v k n a c) (eb ∙ ap (λ (q : Sizes). leb (length c - (q .secret + 16)) (length o)) eq)
+
+-- a message always fits into its sealed message
+pub fits-itself : (v : Variant) (c : Bytes) → fitsOutput v c c ≡ true
+fits-itself v c = le-leb (openLength v c) (length c) (omega arith)
 
 -- ---- what opening is made of, in the terms of the code
 -- the number of the answer r is 0: what the call that decrypts wants, and what it puts into an output o. q is what the code has for the sizes, and u the state

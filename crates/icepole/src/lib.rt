@@ -346,7 +346,7 @@ pub fn open_message(
     r
 }
 
-// Opening in place (02, N6): all of buffer is the sealed message, and the message is put to its front. It is written only after the tag was found to agree; until
+// Opening in place (02, N6): all of buffer is the sealed message, and the message is put at its front. It is written only after the tag was found to agree; until
 // then the buffer is only read.
 pub fn open_in_place(
     v: Variant,

@@ -10,7 +10,7 @@ use borrow.Author.Tests.{ne-eqb, le-leb, lt-leb}
 use lib.ListN.{length, take}
 use lib.Seq.{length-take-le}
 use Rattle.bytes_le.specs.Bytes.{Bytes, le, putBytes}
-use Rattle.icepole.specs.Answers.{fitsOutput, openAnswer, openLength, openNumber, openOutput, openedAnswer, sealAnswer, sealRefusal}
+use Rattle.icepole.specs.Answers.{fitsOutput, openAnswer, openNumber, openOutput, openedAnswer, sealAnswer, sealRefusal}
 use Rattle.icepole.specs.Variants.{sizes}
 use Rattle.icepole.specs.declared.Opened.{Opened}
 use Rattle.icepole.specs.declared.Sealed.{Sealed}
@@ -67,7 +67,3 @@ long-call v q eq k n a c o t h r er o′ eo x ex t′ et =
       eo ∙ ap (λ (b : Bool). openOutput v k n a c b o) b,
       et ∙ ap₂ (λ (r : Opened) (q : Sizes). infoAfter r (q .secret) t) e eq,
     )
-
--- a message always fits into the buffer of its sealed message
-pub fits-itself : (v : Variant) (c : Bytes) → fitsOutput v c c ≡ true
-fits-itself v c = le-leb (openLength v c) (length c) (omega arith)

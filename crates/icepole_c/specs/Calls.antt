@@ -1,5 +1,5 @@
 -- The C calls of sealing and opening (01, "Sealing and opening"; 02, N6), over the variant: `SealContract`, `OpenContract` and `InPlaceContract` are the
--- contracts of the calls of each.
+-- contracts of sealing, opening and opening in place, three calls each.
 -- Opening puts the message's length (8 bytes) and then the secret number at the front of a further lent slice, here called info.
 -- Assumes nothing.
 use mathlib.Core.Path.{_≡_}

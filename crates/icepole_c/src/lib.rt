@@ -33,7 +33,7 @@ fn seal_call(
 // Where the secret number stands in what opening puts into info, behind the message's length.
 const SECRET_AT: usize = 8;
 
-// Where opening answered r and was not refused, its length and its secret number of n bytes are put into info. Returns its number.
+// What opening answered, r, for C: where its number is 0, its length and its secret number, n bytes, are put at the front of info. Returns the number.
 fn put_info(r: Opened, n: usize, info: &mut [u8]) -> u32
     requires { ⌜ (n ≤ maxSecret) × (8 + n ≤ length (now info)) ⌝ }
     ensures { λ x. ⌜ (x ≡ r .refusal) × (now (info .exit) ≡ infoAfter r n (now (info .entry))) ⌝ }
@@ -92,8 +92,8 @@ fn open_in_place_call(
         (now (first .entry) ++ now (second .entry)) (now (buffer .entry)) (now (info .entry)) r (now (buffer .exit)) (now (info .exit)) ⌝ }
 {
     let q = icepole::sizes_of(v);
-    let secret = q.secret;
-    if info.len() < SECRET_AT + secret {
+    let secret_length = q.secret;
+    if info.len() < SECRET_AT + secret_length {
         return icepole::open_number(
             v,
             key.len(),
@@ -105,7 +105,7 @@ fn open_in_place_call(
         );
     }
     let r = icepole::open_in_place(v, key, nonce, first, second, buffer);
-    put_info(r, secret, info)
+    put_info(r, secret_length, info)
 }
 
 #[no_mangle]

@@ -1,4 +1,4 @@
--- `icepole_c::open_in_place_call` meets its contract: where the further slice is long enough, by what opening in place answers, into which the message fits.
+-- `icepole_c::open_in_place_call` meets its contract: where the further slice is long enough, by what opening in place answers; the message fits.
 -- Assumes nothing.
 use mathlib.Core.Path.{sym, ap, _∙_}
 use mathlib.Core.Bool.{Bool}
@@ -7,8 +7,9 @@ use native.Mathlib.Omega.{arith}
 use borrow.Author.Needs.{needs}
 use Rattle.blocks.specs.Bounds.{Bounded}
 use Rattle.icepole.specs.Answers.{openAnswer, openOutput}
+use Rattle.icepole.proofs.Answers.{fits-itself}
 use Rattle.icepole.proofs.Bounds.{bounded-by}
-use Rattle.icepole_c.proofs.Returned.{fits-itself, long-call, short-call}
+use Rattle.icepole_c.proofs.Returned.{long-call, short-call}
 use Rattle.icepole_c.proofs.open_in_place_call.Statement.{statement}
 use Rattle.icepole_c.proofs.open_in_place_call.Tie as tie
 
