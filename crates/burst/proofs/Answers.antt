@@ -34,11 +34,11 @@ closedWith num total r = record { refusal = num; mark = 0; total = total; record
 -- ---- begin
 module _ (key : Bytes) (i : Identity) (b : Bytes) (e : Edition) (own : e ≡ written (length key)) where
   abbrev beginHere : ℕ
-  beginHere = beginNumber e (length key) (length (i .siteMark)) (length b)
+  beginHere = beginNumber e (length key) (length (i .siteMark)) (i .name .camera) (length b)
 
   begins-own : beginHere ≡ beginRefusal key i b
   unfolding beginRefusal
-  begins-own = ap (λ (x : Edition). beginNumber x (length key) (length (i .siteMark)) (length b)) own
+  begins-own = ap (λ (x : Edition). beginNumber x (length key) (length (i .siteMark)) (i .name .camera) (length b)) own
 
   pub begin-refused : (num : ℕ) → num ≡ beginHere → (num ≡ 0 → ⊥) → (r : Recorder) → r ≡ noRecorder
       → (begunWith num r ≡ beginAnswer key i b) × (b ≡ beginBuffer key i b)

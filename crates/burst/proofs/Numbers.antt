@@ -7,42 +7,55 @@ use borrow.Author.Tests.{le-leb, lt-leb, eq-eqb, ne-eqb, lt-ltb, le-ltb, leb-fal
 use lib.Dec.{eqb, leb, ltb}
 use Rattle.icepole.proofs.Numbers.{passed, neither}
 use Rattle.burst.specs.declared.Edition.{Edition}
+use Rattle.burst.specs.Editions.{noCamera}
 use Rattle.burst.specs.Parts.{keyLength, markLength}
 use Rattle.burst.specs.Layout.{maxPicture}
 use Rattle.burst.specs.Numbers.{usedAfter, totalFrom, beginNumber, keepNumber, dropNumber, closeNumber}
 
--- ---- begin
-module _ (e : Edition) (k m b : ℕ) where
-  pub begin-1 : (k ≡ keyLength → ⊥) → 1 ≡ beginNumber e k m b
+-- ---- begin: k key, m site mark, n camera number, b buffer
+module _ (e : Edition) (k m n b : ℕ) where
+  pub begin-1 : (k ≡ keyLength → ⊥) → 1 ≡ beginNumber e k m n b
   unfolding beginNumber
   begin-1 h = sym (simp (ne-eqb k keyLength h))
 
   module _ (h₁ : k ≡ keyLength) where
-    pub begin-3 : (m ≡ markLength → ⊥) → 3 ≡ beginNumber e k m b
+    pub begin-3 : (m ≡ markLength → ⊥) → 3 ≡ beginNumber e k m n b
     unfolding beginNumber
     begin-3 h = sym (simp (eq-eqb k keyLength h₁, ne-eqb m markLength h))
 
     module _ (h₂ : m ≡ markLength) where
-      pub begin-11 : b < totalFrom (e .header) 0 → 11 ≡ beginNumber e k m b
+      pub begin-15 : noCamera e n ≡ true → 15 ≡ beginNumber e k m n b
       unfolding beginNumber
-      begin-11 h = sym (simp (eq-eqb k keyLength h₁, eq-eqb m markLength h₂, lt-ltb b (totalFrom (e .header) 0) h))
+      begin-15 h = sym (simp (eq-eqb k keyLength h₁, eq-eqb m markLength h₂, h))
 
-      pub begin-0 : totalFrom (e .header) 0 ≤ b → 0 ≡ beginNumber e k m b
-      unfolding beginNumber
-      begin-0 h = sym (simp (eq-eqb k keyLength h₁, eq-eqb m markLength h₂, le-ltb b (totalFrom (e .header) 0) h))
+      module _ (h₃ : noCamera e n ≡ false) where
+        pub begin-11 : b < totalFrom (e .header) 0 → 11 ≡ beginNumber e k m n b
+        unfolding beginNumber
+        begin-11 h = sym (simp (eq-eqb k keyLength h₁, eq-eqb m markLength h₂, h₃, lt-ltb b (totalFrom (e .header) 0) h))
 
-pub record Begins (e : Edition) (k m b : ℕ) : Type 0 where
+        pub begin-0 : totalFrom (e .header) 0 ≤ b → 0 ≡ beginNumber e k m n b
+        unfolding beginNumber
+        begin-0 h = sym (simp (eq-eqb k keyLength h₁, eq-eqb m markLength h₂, h₃, le-ltb b (totalFrom (e .header) 0) h))
+
+pub record Begins (e : Edition) (k m n b : ℕ) : Type 0 where
   pub key : k ≡ keyLength
   pub mark : m ≡ markLength
+  pub camera : noCamera e n ≡ false
   pub room : totalFrom (e .header) 0 ≤ b
 
-pub begins : (e : Edition) (k m b : ℕ) → beginNumber e k m b ≡ 0 → Begins e k m b
+pub begins : (e : Edition) (k m n b : ℕ) → beginNumber e k m n b ≡ 0 → Begins e k m n b
 unfolding beginNumber
-begins e k m b h =
+begins e k m n b h =
     let p₁ = passed (not (eqb k keyLength)) _ _ h in
     let p₃ = passed (not (eqb m markLength)) _ _ (p₁ .1) in
-    let p₁₁ = passed (ltb b (totalFrom (e .header) 0)) _ _ (p₃ .1) in
-    record { key = eqb-true _ _ (not-false _ (p₁ .0)); mark = eqb-true _ _ (not-false _ (p₃ .0)); room = ltb-false _ _ (p₁₁ .0) }
+    let p₁₅ = passed (noCamera e n) _ _ (p₃ .1) in
+    let p₁₁ = passed (ltb b (totalFrom (e .header) 0)) _ _ (p₁₅ .1) in
+    record {
+      key = eqb-true _ _ (not-false _ (p₁ .0));
+      mark = eqb-true _ _ (not-false _ (p₃ .0));
+      camera = p₁₅ .0;
+      room = ltb-false _ _ (p₁₁ .0);
+    }
 
 -- ---- keep: s whether sound, t taken, k kept, u used, m stamp, p picture, b buffer
 module _ (e : Edition) (s : Bool) (t k u m p b : ℕ) where

@@ -1,14 +1,14 @@
 -- Fields put one after another, and what they come to.
 -- Assumes nothing.
 use mathlib.Core.List.{List, [], _∷_, _++_, append-assoc, append-nil}
-use mathlib.Core.Path.{_≡_, refl, sym, ap, _∙_}
+use mathlib.Core.Path.{_≡_, refl, sym, ap, ap₂, _∙_}
 use Prim.Native.Nat.{ℕ, zero, suc, _+_, _-_, _*_, _≤_, _<_}
 use native.Mathlib.Omega.{arith}
 use native.Mathlib.Numerals.{add-one}
-use lib.ListN.{length, take, getD, replicate, length-replicate, length-append, replicate-append-replicate}
+use lib.ListN.{length, take, drop, getD, replicate, length-replicate, length-append, replicate-append-replicate}
 use lib.Seq.{take-suc, take-at}
 use Rattle.bytes_le.specs.Bytes.{Bytes, putBytes, le}
-use Rattle.bytes_le.proofs.Laws.{put-put, take-put}
+use Rattle.bytes_le.proofs.Laws.{length-le, put-put, put-front, take-put}
 use Rattle.burst.specs.declared.Entry.{Entry}
 use Rattle.burst.specs.declared.Edition.{Edition}
 use Rattle.burst.specs.declared.Name.{Name}
@@ -31,13 +31,15 @@ pub length-entry-of : (e : Entry) → length (bytesOfEntry e) ≡ 12
 unfolding bytesOfEntry
 length-entry-of e = length-entry (e .shot .0) (e .zeros) (e .offset) (e .length)
 
-pub length-rest : (e : Edition) (name : Name) → length (headerRest e name) ≡ e .header - fieldsLength
+pub length-rest : (e : Edition) → Known e → (name : Name) → length (headerRest e name) ≡ e .header - fieldsLength
 unfolding headerRest
-length-rest e name = length-replicate (e .header - fieldsLength) 0
+length-rest e w name =
+    let z = length-replicate {A = ℕ} (e .header - (fieldsLength + e .camera)) 0 in
+    length-append (le (e .camera) (name .camera)) _ ∙ ap₂ _+_ (length-le (e .camera) (name .camera)) z ∙ (omega (arith, w .least))
 
 pub length-header : (e : Edition) → Known e → (name : Name) (t k d u : ℕ) → length (headerBytes e name t k d u) ≡ e .header
 unfolding headerBytes
-length-header e w name t k d u = let h = length-rest e name in let g = w .least in omega arith
+length-header e w name t k d u = let h = length-rest e w name in let g = w .least in omega arith
 
 pub length-nonce : (e : Edition) (name : Name) (s : ℕ) → length (nonceOf e name s) ≡ 16
 unfolding nonceOf
@@ -47,6 +49,11 @@ pub take-zeros : (n m : ℕ) → n ≤ m → take {A = ℕ} n (replicate m 0) �
 take-zeros zero m h = refl
 take-zeros (suc n) zero h = absurd (omega arith)
 take-zeros (suc n) (suc m) h = ap (λ (r : Bytes). 0 ∷ r) (take-zeros n m (omega arith))
+
+drop-zeros : (n m : ℕ) → n ≤ m → drop {A = ℕ} n (replicate m 0) ≡ replicate (m - n) 0
+drop-zeros zero m h = let q : m ≡ m - 0 = omega arith in ap (λ (k : ℕ). replicate k 0) q
+drop-zeros (suc n) zero h = absurd (omega arith)
+drop-zeros (suc n) (suc m) h = let q : m - n ≡ suc m - suc n = omega arith in drop-zeros n m (omega arith) ∙ ap (λ (k : ℕ). replicate k 0) q
 
 -- a row's header of zeros, at the front of the longest
 pub header-zeros : (e : Edition) → Known e → take {A = ℕ} (e .header) (replicate maxHeader 0) ≡ replicate (e .header) 0
@@ -66,16 +73,32 @@ entry-put l h₁ h₂ h₃ h₄ at a b c s z p n h e₁ g₁ e₂ g₂ e₃ g₃
     (grow l h₁ h₂ (le 2 s) (le 2 z) at a e₁ e₂ g₁ (omega arith)) e₃ (omega arith) (omega arith)) e₄ (omega arith) (omega arith)
 
 -- the nonce's fields, over zeros
-pub nonce-put : (e : Edition) (name : Name) (h₁ h₂ : Bytes) (s i : ℕ) → i ≡ 8 → h₁ ≡ putBytes (replicate 16 0) 0 (le 8 (name .«burst_number»)) → h₂ ≡ putBytes h₁ i (le 2 s)
-    → h₂ ≡ nonceOf e name s
+pub nonce-put : (e : Edition) (name : Name) (h₁ h₂ h₃ : Bytes) (s i j : ℕ) → i ≡ 8 → j ≡ i + 2 → h₁ ≡ putBytes (replicate 16 0) 0 (le 8 (name .«burst_number»))
+    → h₂ ≡ putBytes h₁ i (le 2 s) → h₃ ≡ putBytes h₂ j (le 4 (name .camera))
+    → h₃ ≡ nonceOf e name s
 unfolding nonceOf putBytes
-nonce-put e name h₁ h₂ s i g p f =
-    grow (replicate 16 0) h₁ h₂ (le 8 (name .«burst_number»)) (le 2 s) 0 8 p (f ∙ ap (λ (k : ℕ). putBytes h₁ k (le 2 s)) g) refl (omega arith)
+nonce-put e name h₁ h₂ h₃ s i j g₁ g₂ e₁ e₂ e₃ =
+    grow (replicate 16 0) h₂ h₃ (le 8 (name .«burst_number») ++ le 2 s) (le 4 (name .camera)) 0 j
+    (grow (replicate 16 0) h₁ h₂ (le 8 (name .«burst_number»)) (le 2 s) 0 i e₁ e₂ (omega arith) (omega arith)) e₃ (omega arith) (omega arith)
 
--- the header's nine fields, over the bytes of the longest header
+-- two runs over zeros: n of the zeros behind them are one more run
+over-zeros : (b c : Bytes) (n m : ℕ) → length (b ++ c) + (n + m) ≡ maxHeader
+    → putBytes (replicate maxHeader 0) 0 (b ++ c) ≡ (b ++ (c ++ replicate n 0)) ++ replicate m 0
+over-zeros b c n m h =
+    let q : maxHeader - length (b ++ c) ≡ n + m = omega arith in
+    put-front (replicate maxHeader 0) (b ++ c)
+    ∙ ap (λ (r : Bytes). (b ++ c) ++ r)
+    (drop-zeros (length (b ++ c)) maxHeader (omega arith) ∙ ap (λ (k : ℕ). replicate k 0) q ∙ sym (replicate-append-replicate n m 0))
+    ∙ sym (append-assoc (b ++ c) (replicate n 0) (replicate m 0))
+    ∙ ap (λ (r : Bytes). r ++ replicate m 0) (append-assoc b c (replicate n 0))
+
+-- the header's fields, the nine and the camera number, over the bytes of the longest header
 module _ (e : Edition) (name : Name) (t k d u : ℕ) where
   abbrev fields : Bytes
   fields = le 2 (e .number) ++ (le 2 t ++ (le 2 k ++ (le 2 d ++ (le 8 (name .«burst_number») ++ (le 4 (e .header) ++ (le 4 u ++ (le 4 (u + 12 * k) ++ le 4 (u + 12 * k + 32))))))))
+
+  abbrev camera : Bytes
+  camera = le (e .camera) (name .camera)
 
   fields-put : (l h₁ h₂ h₃ h₄ h₅ h₆ h₇ h₈ h₉ : Bytes) → length l ≡ maxHeader
       → h₁ ≡ putBytes l 0 (le 2 (e .number)) → h₂ ≡ putBytes h₁ 2 (le 2 t) → h₃ ≡ putBytes h₂ 4 (le 2 k) → h₄ ≡ putBytes h₃ 6 (le 2 d)
@@ -94,20 +117,23 @@ module _ (e : Edition) (name : Name) (t k d u : ℕ) where
       e₃ refl (omega arith)) e₄ refl (omega arith)) e₅ refl (omega arith)) e₆ refl (omega arith)) e₇ refl (omega arith)) e₈ refl (omega arith)) e₉ refl (omega arith)
 
   -- over zeros: the header, and the zeros behind it
-  fields-front : Known e → putBytes (replicate maxHeader 0) 0 fields ≡ headerBytes e name t k d u ++ replicate (maxHeader - e .header) 0
-  unfolding headerBytes headerRest putBytes
+  fields-front : Known e → putBytes (replicate maxHeader 0) 0 (fields ++ camera) ≡ headerBytes e name t k d u ++ replicate (maxHeader - e .header) 0
+  unfolding headerBytes headerRest
   fields-front w =
-      let q : maxHeader - fieldsLength ≡ e .header - fieldsLength + (maxHeader - e .header) = omega (arith, w) in
-      ap (λ (r : Bytes). fields ++ r)
-      (ap (λ (n : ℕ). replicate n 0) q ∙ sym (replicate-append-replicate (e .header - fieldsLength) (maxHeader - e .header) 0))
+      let l = length-le (e .camera) (name .camera) in
+      over-zeros fields camera (e .header - (32 + e .camera)) (maxHeader - e .header) (omega (arith, w .least, w .header, l))
 
-  pub header-put : Known e → (h₁ h₂ h₃ h₄ h₅ h₆ h₇ h₈ h₉ : Bytes)
+  pub header-put : Known e → (h₁ h₂ h₃ h₄ h₅ h₆ h₇ h₈ h₉ h₁₀ : Bytes)
       → h₁ ≡ putBytes (replicate maxHeader 0) 0 (le 2 (e .number)) → h₂ ≡ putBytes h₁ 2 (le 2 t) → h₃ ≡ putBytes h₂ 4 (le 2 k) → h₄ ≡ putBytes h₃ 6 (le 2 d)
       → h₅ ≡ putBytes h₄ 8 (le 8 (name .«burst_number»))
       → h₆ ≡ putBytes h₅ 16 (le 4 (e .header)) → h₇ ≡ putBytes h₆ 20 (le 4 u) → h₈ ≡ putBytes h₇ 24 (le 4 (u + 12 * k)) → h₉ ≡ putBytes h₈ 28 (le 4 (u + 12 * k + 32))
-      → h₉ ≡ headerBytes e name t k d u ++ replicate (maxHeader - e .header) 0
-  header-put w h₁ h₂ h₃ h₄ h₅ h₆ h₇ h₈ h₉ e₁ e₂ e₃ e₄ e₅ e₆ e₇ e₈ e₉ =
-      fields-put (replicate maxHeader 0) h₁ h₂ h₃ h₄ h₅ h₆ h₇ h₈ h₉ refl e₁ e₂ e₃ e₄ e₅ e₆ e₇ e₈ e₉ ∙ fields-front w
+      → h₁₀ ≡ putBytes h₉ 32 camera
+      → h₁₀ ≡ headerBytes e name t k d u ++ replicate (maxHeader - e .header) 0
+  header-put w h₁ h₂ h₃ h₄ h₅ h₆ h₇ h₈ h₉ h₁₀ e₁ e₂ e₃ e₄ e₅ e₆ e₇ e₈ e₉ e₁₀ =
+      let l = length-le (e .camera) (name .camera) in
+      grow (replicate maxHeader 0) h₉ h₁₀ fields camera 0 32
+      (fields-put (replicate maxHeader 0) h₁ h₂ h₃ h₄ h₅ h₆ h₇ h₈ h₉ refl e₁ e₂ e₃ e₄ e₅ e₆ e₇ e₈ e₉) e₁₀ refl (omega (arith, w .least, w .header, l))
+      ∙ fields-front w
 
   -- it stands at the front
   pub header-front : Known e → (h : Bytes) → h ≡ headerBytes e name t k d u ++ replicate (maxHeader - e .header) 0

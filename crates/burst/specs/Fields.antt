@@ -1,4 +1,4 @@
--- The fields of the burst file: how many bytes each has, and where it stands in header or index entry (01, "The burst file"). All numbers are little-endian.
+-- The fields of the burst file: how many bytes each has, and where it stands in header or index entry (01, "The burst file"; 02, N1). All numbers are little-endian.
 -- Assumes nothing.
 use Prim.Native.Nat.{ℕ, _+_}
 
@@ -14,6 +14,10 @@ offsetWidth = 4
 -- a burst number, in the nonce too
 abbrev pub burstNumberWidth : ℕ
 burstNumberWidth = 8
+
+-- a camera number, in the nonce too (02, N1)
+abbrev pub cameraWidth : ℕ
+cameraWidth = 4
 
 -- ---- where the header's nine fields stand, with which it starts in every edition
 abbrev pub editionAt : ℕ
@@ -46,6 +50,10 @@ totalAt = closingOffsetAt + offsetWidth
 -- they have so many bytes
 abbrev pub fieldsLength : ℕ
 fieldsLength = totalAt + offsetWidth
+
+-- behind them, in an edition that has one, the camera number (02, N1: bytes 32 to 35)
+abbrev pub cameraAt : ℕ
+cameraAt = fieldsLength
 
 -- ---- where an index entry's fields stand, from its first byte on: the shot number at 0, then
 abbrev pub zerosAt : ℕ

@@ -1,4 +1,4 @@
--- The burst file's pieces as bytes (01, "The burst file").
+-- The burst file's pieces as bytes (01, "The burst file"; 02, N1).
 -- Assumes nothing.
 use mathlib.Core.List.{[], _++_}
 use Prim.Native.Nat.{ℕ, _+_, _-_, _*_}
@@ -6,9 +6,9 @@ use lib.ListN.{length, replicate}
 use Rattle.bytes_le.specs.Bytes.{Bytes, le}
 use Rattle.burst.specs.declared.Edition.{Edition}
 use Rattle.burst.specs.declared.Name.{Name}
-use Rattle.burst.specs.Fields.{countWidth, offsetWidth, burstNumberWidth, fieldsLength, entryLength}
+use Rattle.burst.specs.Fields.{countWidth, offsetWidth, burstNumberWidth, cameraAt, entryLength}
 use Rattle.burst.specs.Editions.{maxEntries}
-use Rattle.burst.specs.Parts.{sealLength, sealPart}
+use Rattle.burst.specs.Parts.{sealLength, nameHeld, sealPart}
 
 -- a picture has 1 to so many bytes
 abbrev pub maxPicture : ℕ
@@ -24,8 +24,12 @@ pub record Identity : Type 0 where
   pub siteMark : Bytes
 
 -- from begin's arguments
-abbrev pub identified : (burstNumber : ℕ) (siteMark : Bytes) → Identity
-identified burstNumber siteMark = record { name = record { «burst_number» = burstNumber }; siteMark = siteMark }
+abbrev pub identified : (burstNumber camera : ℕ) (siteMark : Bytes) → Identity
+identified burstNumber camera siteMark = record { name = record { «burst_number» = burstNumber; camera = camera }; siteMark = siteMark }
+
+-- that of a burst of an edition, from what its begin is given
+abbrev pub identityHeld : Edition → Identity → Identity
+identityHeld e i = record { name = nameHeld e (i .name); siteMark = i .siteMark }
 
 -- ---- the pieces
 -- index entry: shot number, zero, record offset, picture length
@@ -36,9 +40,9 @@ entryBytes shot zeros offset count = le countWidth shot ++ (le countWidth zeros 
 abbrev pub closingOffset : ℕ → ℕ → ℕ
 closingOffset indexOffset kept = indexOffset + entryLength * kept
 
--- the header's bytes behind its nine fields
+-- the header's bytes behind its nine fields: in an edition that has one the camera number, then zeros
 unfoldable pub headerRest : Edition → Name → Bytes
-headerRest e name = replicate (e .header - fieldsLength) 0
+headerRest e name = le (e .camera) (name .camera) ++ replicate (e .header - (cameraAt + e .camera)) 0
 
 -- header: edition, taken, kept, dropped, burst number, picture offset, index offset, closing offset, total length, and the rest
 unfoldable pub headerBytes : Edition → Name → (taken kept dropped indexOffset : ℕ) → Bytes

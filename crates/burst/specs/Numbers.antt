@@ -1,5 +1,5 @@
--- The refusal numbers of the recorder's calls, from plain numbers (01, "Recorder" and "Turned down, by example"). The recorder and the plain burst use
--- the same.
+-- The refusal numbers of the recorder's calls, from plain numbers (01, "Recorder" and "Turned down, by example"; 02, N1). The recorder and the plain
+-- burst use the same.
 -- Assumes nothing.
 use mathlib.Core.Bool.{Bool, not, _||_}
 use mathlib.Core.List.{[], _∷_}
@@ -7,6 +7,7 @@ use Prim.Native.Nat.{ℕ, _+_}
 use lib.Dec.{eqb, leb, ltb}
 use Rattle.icepole.specs.Answers.{refusal, _when_}
 use Rattle.burst.specs.declared.Edition.{Edition}
+use Rattle.burst.specs.Editions.{noCamera}
 use Rattle.burst.specs.Parts.{sealLength, keyLength, markLength}
 use Rattle.burst.specs.Layout.{maxPicture, closingOffset}
 
@@ -18,12 +19,13 @@ usedAfter used picture = used + picture + sealLength
 abbrev pub totalFrom : ℕ → ℕ → ℕ
 totalFrom used kept = closingOffset used kept + sealLength
 
--- key, site mark and buffer by their lengths. A burst without shots needs header and closing seal
-unfoldable pub beginNumber : Edition → (key siteMark buffer : ℕ) → ℕ
-beginNumber e key siteMark buffer =
+-- key, site mark and buffer by their lengths, and the camera number. A burst without shots needs header and closing seal
+unfoldable pub beginNumber : Edition → (key siteMark camera buffer : ℕ) → ℕ
+beginNumber e key siteMark camera buffer =
     refusal
     ((1 when not (eqb key keyLength))
     ∷ (3 when not (eqb siteMark markLength))
+    ∷ (15 when noCamera e camera)
     ∷ (11 when ltb buffer (totalFrom (e .header) 0))
     ∷ [])
 

@@ -1,4 +1,4 @@
--- A sealed part of the burst file: a record, or the closing seal, which has shot number 0 (01, "The burst file"). It holds a mark, which is the stamp or
+-- A sealed part of the burst file: a record, or the closing seal, which has shot number 0 (01, "The burst file"; 02, N1). It holds a mark, which is the stamp or
 -- the site mark, and a body. (The mark that goes with a refusal number is another.)
 -- Here the cipher is chosen; recorder, reader and demand 3 name no variant.
 -- Assumes nothing.
@@ -15,7 +15,8 @@ use Rattle.blocks.specs.Sealing.{sealed, secretOf, messageOf}
 use Rattle.icepole.specs.Answers.{tagAgrees, openedAnswer, unless}
 use Rattle.burst.specs.declared.Edition.{Edition}
 use Rattle.burst.specs.declared.Name.{Name}
-use Rattle.burst.specs.Fields.{countWidth, burstNumberWidth}
+use Rattle.burst.specs.Fields.{countWidth, burstNumberWidth, cameraWidth}
+use Rattle.burst.specs.Editions.{cameraHeld}
 
 -- bytes of the key
 abbrev pub keyLength : ℕ
@@ -33,13 +34,18 @@ noMark = replicate markLength 0
 abbrev pub sealLength : ℕ
 sealLength = markLength + tagLength
 
--- what the types of begin's arguments say of a name: a burst number fits its field
-abbrev pub Fits : Edition → Name → Type 0
-Fits e name = name .«burst_number» < 256 ^ burstNumberWidth
+-- what the types of begin's arguments say of a name: burst number and camera number fit their fields
+abbrev pub Fits : Name → Type 0
+Fits name = (name .«burst_number» < 256 ^ burstNumberWidth) × (name .camera < 256 ^ cameraWidth)
 
--- nonce: burst number, shot number, six zeros
+-- the name of a burst of an edition, from what its begin is given
+abbrev pub nameHeld : Edition → Name → Name
+nameHeld e name = record { «burst_number» = name .«burst_number»; camera = cameraHeld e (name .camera) }
+
+-- nonce: burst number, shot number, camera number, two zeros. A burst of edition 1 holds camera number 0 (`nameHeld`), so that six zeros end its nonces
 unfoldable pub nonceOf : Edition → Name → (shot : ℕ) → Bytes
-nonceOf e name shot = le burstNumberWidth (name .«burst_number») ++ (le countWidth shot ++ replicate 6 0)
+nonceOf e name shot =
+    le burstNumberWidth (name .«burst_number») ++ (le countWidth shot ++ (le cameraWidth (name .camera) ++ replicate 2 0))
 
 module _ (e : Edition) (key : Bytes) (name : Name) (shot : ℕ) where
   -- ---- sealing: ICEPOLE-128, with the mark as the secret number and the body as the message

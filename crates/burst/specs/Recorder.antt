@@ -1,4 +1,4 @@
--- The recorder's calls (01, "Recorder"): what each answers and leaves in the buffer, for good and bad calls.
+-- The recorder's calls (01, "Recorder"; 02, N1): what each answers and leaves in the buffer, for good and bad calls.
 -- Assumes nothing.
 use mathlib.Core.Bool.{Bool, true, false, not, _&&_}
 use mathlib.Core.List.{List, _++_}
@@ -27,7 +27,7 @@ abbrev pub editionOf : Recorder → Edition
 editionOf r = written (length (r .key))
 
 abbrev pub nameOf : Recorder → Name
-nameOf r = record { «burst_number» = r .«burst_number» }
+nameOf r = record { «burst_number» = r .«burst_number»; camera = r .camera }
 
 abbrev pub identityOf : Recorder → Identity
 identityOf r = record { name = nameOf r; siteMark = r .«site_mark» }
@@ -52,6 +52,7 @@ changed r taken kept used entries closed = record {
   used = used;
   entries = entries;
   closed = closed;
+  camera = r .camera;
 }
 
 -- ---- begin
@@ -66,15 +67,16 @@ newRecorder key i used closed = record {
   used = used;
   entries = replicate maxEntries (entryOf 0 0 0);
   closed = closed;
+  camera = i .name .camera;
 }
 
 -- what a begin that is turned down returns: a closed recorder, otherwise zero
 unfoldable pub noRecorder : Recorder
-noRecorder = newRecorder (replicate keyLength 0) (identified 0 noMark) 0 true
+noRecorder = newRecorder (replicate keyLength 0) (identified 0 0 noMark) 0 true
 
 module _ (key : Bytes) (i : Identity) (buffer : Bytes) where
   unfoldable pub beginRefusal : ℕ
-  beginRefusal = beginNumber (written (length key)) (length key) (length (i .siteMark)) (length buffer)
+  beginRefusal = beginNumber (written (length key)) (length key) (length (i .siteMark)) (i .name .camera) (length buffer)
 
   unfoldable pub beginAnswer : Begun
   beginAnswer = record {

@@ -1,4 +1,4 @@
-// The burst file: its editions, its sealed parts, and the recorder (01, "The burst file", "Recorder").
+// The burst file: its editions, its sealed parts, and the recorder (01, "The burst file", "Recorder"; 02, N1).
 use icepole::KEY_BYTES;
 use icepole::KEY_LENGTH;
 use icepole::NONCE_BYTES;
@@ -13,7 +13,7 @@ ghost use Prim.Native.Nat.{_+_, _-_, _*_, _≤_, _<_, _^_};
 ghost use lib.ListN.{length, take, replicate};
 ghost use Rattle.bytes_le.specs.Bytes.{putBytes};
 ghost use Rattle.burst.specs.Fields.{offsetWidth, entryLength};
-ghost use Rattle.burst.specs.Editions.{Known, numbered, written, maxEntries, maxHeader};
+ghost use Rattle.burst.specs.Editions.{Known, numbered, written, noCamera, maxEntries, maxHeader};
 ghost use Rattle.burst.specs.Parts.{sealLength, nonceOf, sealPart, partAnswer, partOutput, keyLength, markLength};
 ghost use Rattle.burst.specs.Layout.{identified, maxPicture, maxIndex, headerBytes, recordBytes, closingSeal};
 ghost use Rattle.burst.specs.Numbers.{beginNumber, keepNumber, dropNumber, closeNumber};
@@ -27,7 +27,7 @@ pub struct Shot(pub u16);
 // A place (01): counts kept pictures from 0.
 pub struct Place(pub u16);
 
-// The refusal numbers of recorder and reader (01, "Turned down, by example"), after those of `icepole`.
+// The refusal numbers of recorder and reader (01, "Turned down, by example"; 02, N1), after those of `icepole`.
 pub const NOT_SOUND: u32 = 8;
 
 pub const BURST_FULL: u32 = 9;
@@ -40,13 +40,17 @@ pub const FRONT_BROKEN: u32 = 12;
 
 pub const NO_SUCH_PLACE: u32 = 13;
 
+pub const NO_CAMERA_NUMBER: u32 = 15;
+
 // ---- the fields of header and index entry
-// Bytes of a count (an edition, a shot number, taken, kept, dropped), of an offset or a length, and of a burst number.
+// Bytes of a count (an edition, a shot number, taken, kept, dropped), of an offset or a length, of a burst number, and of a camera number.
 pub const COUNT_WIDTH: usize = 2;
 
 pub const OFFSET_WIDTH: usize = 4;
 
 pub const BURST_NUMBER_WIDTH: usize = 8;
+
+pub const CAMERA_WIDTH: usize = 4;
 
 // Where the header's nine fields stand, with which it starts in every edition.
 pub const EDITION_AT: usize = 0;
@@ -70,6 +74,9 @@ pub const TOTAL_AT: usize = CLOSING_OFFSET_AT + OFFSET_WIDTH;
 // They have so many bytes.
 pub const FIELDS_LENGTH: usize = TOTAL_AT + OFFSET_WIDTH;
 
+// Behind them, in an edition that has one, the camera number.
+pub const CAMERA_AT: usize = FIELDS_LENGTH;
+
 // Where an entry's fields stand, from its first byte on: the shot number at 0, then
 pub const ZEROS_AT: usize = COUNT_WIDTH;
 
@@ -80,11 +87,13 @@ pub const PICTURE_LENGTH_AT: usize = RECORD_OFFSET_AT + OFFSET_WIDTH;
 pub const ENTRY_LENGTH: usize = PICTURE_LENGTH_AT + OFFSET_WIDTH;
 
 // ---- the editions
-// The facts of an edition: its number in the header, the bytes of its header, and its most shots.
+// The facts of an edition: its number in the header, the bytes of its header, its most shots, and the bytes of its camera number.
 pub struct Edition {
     pub number: u16,
     pub header: u32,
     pub shots: u16,
+    // a count of bytes: 4, or 0 where the edition has no camera number
+    pub camera: u32,
 }
 
 // Edition 1.
@@ -94,25 +103,41 @@ const HEADER_1: u32 = FIELDS_LENGTH as u32;
 
 const SHOTS_1: u16 = 60;
 
-// The editions, a row each.
-const EDITION_COUNT: usize = 1;
+// Edition 2 (02, N1): a camera number, and four zeros behind it.
+const NUMBER_2: u16 = 2;
 
-const EDITIONS: [Edition; EDITION_COUNT] = [Edition {
-    number: NUMBER_1,
-    header: HEADER_1,
-    shots: SHOTS_1,
-}];
+const HEADER_2: u32 = 40;
+
+const SHOTS_2: u16 = 60;
+
+// The editions, a row each.
+const EDITION_COUNT: usize = 2;
+
+const EDITIONS: [Edition; EDITION_COUNT] = [
+    Edition {
+        number: NUMBER_1,
+        header: HEADER_1,
+        shots: SHOTS_1,
+        camera: 0,
+    },
+    Edition {
+        number: NUMBER_2,
+        header: HEADER_2,
+        shots: SHOTS_2,
+        camera: CAMERA_WIDTH as u32,
+    },
+];
 
 // The number of the edition that the writer makes.
-const WRITTEN: u16 = NUMBER_1;
+const WRITTEN: u16 = NUMBER_2;
 
 // Bytes of the longest header of any row.
-pub const MAX_HEADER: usize = HEADER_1 as usize;
+pub const MAX_HEADER: usize = HEADER_2 as usize;
 
 const MAX_PICTURE: u32 = 1048576;
 
 // Entries of a recorder, the most shots of any row, and bytes of an index of so many entries.
-pub const MAX_ENTRIES: usize = SHOTS_1 as usize;
+pub const MAX_ENTRIES: usize = SHOTS_2 as usize;
 
 pub const MAX_INDEX: usize = ENTRY_LENGTH * MAX_ENTRIES;
 
@@ -122,9 +147,10 @@ pub const MARK_BYTES: usize = SECRET_BYTES;
 // Bytes by which sealing lengthens, and bytes of a closing seal.
 pub const SEAL_LENGTH: u32 = (MARK_BYTES + TAG_BYTES) as u32;
 
-// What names a burst under its key: its number.
+// What names a burst under its key: its number, and the camera's, 0 in an edition that has none.
 pub struct Name {
     pub burst_number: u64,
+    pub camera: u32,
 }
 
 // An index entry: the record's offset in the file and the picture's length. `zeros` is the entry's field that is always zero.
@@ -148,6 +174,7 @@ pub struct Recorder {
     pub used: u32,
     pub entries: [Entry; MAX_ENTRIES],
     pub closed: bool,
+    pub camera: u32,
 }
 
 // What the calls answer: a refusal number, 0 when done, its mark, and the rest, which is zero with a refusal. A refused keep, drop or close returns the
@@ -271,6 +298,7 @@ fn name_of(r: Recorder) -> Name
 {
     Name {
         burst_number: r.burst_number,
+        camera: r.camera,
     }
 }
 
@@ -320,13 +348,24 @@ fn new_recorder(
         used,
         entries: [none; MAX_ENTRIES],
         closed,
+        camera: name.camera,
     }
 }
 
-// The number of begin, from the lengths of what is lent.
-fn begin_number(e: Edition, key: usize, site_mark: usize, buffer: usize) -> u32
+// Whether a camera number is wanted and 0 was given.
+pub fn no_camera(e: Edition, camera: u32) -> bool
+    ensures { λ b. ⌜ b ≡ noCamera e camera ⌝ }
+{
+    if e.camera == 0 {
+        return false;
+    }
+    camera == 0
+}
+
+// The number of begin, from the camera number and the lengths of what is lent.
+fn begin_number(e: Edition, key: usize, site_mark: usize, camera: u32, buffer: usize) -> u32
     requires { ⌜ Known e ⌝ }
-    ensures { λ n. ⌜ n ≡ beginNumber e key «site_mark» buffer ⌝ }
+    ensures { λ n. ⌜ n ≡ beginNumber e key «site_mark» camera buffer ⌝ }
 {
     if key != KEY_BYTES {
         return KEY_LENGTH;
@@ -334,26 +373,38 @@ fn begin_number(e: Edition, key: usize, site_mark: usize, buffer: usize) -> u32
     if site_mark != MARK_BYTES {
         return SECRET_LENGTH;
     }
+    if no_camera(e, camera) {
+        return NO_CAMERA_NUMBER;
+    }
     if buffer < (e.header + SEAL_LENGTH) as usize {
         return BUFFER_TOO_SHORT;
     }
     0
 }
 
-pub fn begin(key: &[u8], burst_number: u64, site_mark: &[u8], buffer: &mut [u8]) -> Begun
+pub fn begin(
+    key: &[u8],
+    burst_number: u64,
+    camera: u32,
+    site_mark: &[u8],
+    buffer: &mut [u8],
+) -> Begun
     ensures { λ r. ⌜
-        (r ≡ beginAnswer (now (key .entry)) (identified «burst_number» (now («site_mark» .entry))) (now (buffer .entry))) ×
-        (now (buffer .exit) ≡ beginBuffer (now (key .entry)) (identified «burst_number» (now («site_mark» .entry))) (now (buffer .entry))) ⌝ }
+        (r ≡ beginAnswer (now (key .entry)) (identified «burst_number» camera (now («site_mark» .entry))) (now (buffer .entry))) ×
+        (now (buffer .exit) ≡ beginBuffer (now (key .entry)) (identified «burst_number» camera (now («site_mark» .entry))) (now (buffer .entry))) ⌝ }
 {
     let e = edition_written(key.len());
-    let number = begin_number(e, key.len(), site_mark.len(), buffer.len());
+    let number = begin_number(e, key.len(), site_mark.len(), camera, buffer.len());
     if number != 0 {
         return Begun {
             refusal: number,
             mark: 0,
             recorder: new_recorder(
                 [0u8; KEY_BYTES],
-                Name { burst_number: 0 },
+                Name {
+                    burst_number: 0,
+                    camera: 0,
+                },
                 [0u8; MARK_BYTES],
                 0,
                 true,
@@ -368,7 +419,16 @@ pub fn begin(key: &[u8], burst_number: u64, site_mark: &[u8], buffer: &mut [u8])
     Begun {
         refusal: 0,
         mark: 0,
-        recorder: new_recorder(k, Name { burst_number }, m, e.header, false),
+        recorder: new_recorder(
+            k,
+            Name {
+                burst_number,
+                camera,
+            },
+            m,
+            e.header,
+            false,
+        ),
     }
 }
 
@@ -422,7 +482,8 @@ fn nonce_of(e: Edition, name: Name, shot: Shot) -> [u8; NONCE_BYTES]
 {
     let mut a = [0u8; NONCE_BYTES];
     let i = bytes_le::store_le(&mut a, 0, BURST_NUMBER_WIDTH, name.burst_number);
-    bytes_le::store_le(&mut a, i, COUNT_WIDTH, shot.0 as u64);
+    let j = bytes_le::store_le(&mut a, i, COUNT_WIDTH, shot.0 as u64);
+    bytes_le::store_le(&mut a, j, CAMERA_WIDTH, name.camera as u64);
     a
 }
 
@@ -648,6 +709,7 @@ fn header_of(e: Edition, r: Recorder) -> [u8; MAX_HEADER]
     bytes_le::store_le(&mut h, INDEX_OFFSET_AT, OFFSET_WIDTH, index);
     bytes_le::store_le(&mut h, CLOSING_OFFSET_AT, OFFSET_WIDTH, closing);
     bytes_le::store_le(&mut h, TOTAL_AT, OFFSET_WIDTH, closing + SEAL_LENGTH as u64);
+    bytes_le::store_le(&mut h, CAMERA_AT, e.camera as usize, r.camera as u64);
     h
 }
 

@@ -21,22 +21,26 @@ use Rattle.burst_c.specs.Calls.{checkInfoLength, checkedBytes, fetchInfo
 use Rattle.burst_c.specs.Calls.{checkCallInfo, fetchCallRefusal, fetchCallOutput, fetchCallInfo}
 
 -- ---- the info's fields, one behind the other
-pub check-put : (l h₁ h₂ h₃ h₄ h₅ s : Bytes) (i₁ i₂ i₃ i₄ b t k d : ℕ) → checkInfoLength ≤ length l → length s ≡ markLength
+pub check-put : (l h₁ h₂ h₃ h₄ h₅ h₆ s : Bytes) (i₁ i₂ i₃ i₄ i₅ b t k d n : ℕ) → checkInfoLength ≤ length l → length s ≡ markLength
     → h₁ ≡ putBytes l 0 (le 8 b) → i₁ ≡ 0 + 8 → h₂ ≡ putBytes h₁ i₁ s → i₂ ≡ i₁ + length s → h₃ ≡ putBytes h₂ i₂ (le 2 t) → i₃ ≡ i₂ + 2
-    → h₄ ≡ putBytes h₃ i₃ (le 2 k) → i₄ ≡ i₃ + 2 → h₅ ≡ putBytes h₄ i₄ (le 2 d)
-    → h₅ ≡ putBytes l 0 (le 8 b ++ (s ++ (le 2 t ++ (le 2 k ++ le 2 d))))
-check-put l h₁ h₂ h₃ h₄ h₅ s i₁ i₂ i₃ i₄ b t k d h hs e₁ g₁ e₂ g₂ e₃ g₃ e₄ g₄ e₅ =
+    → h₄ ≡ putBytes h₃ i₃ (le 2 k) → i₄ ≡ i₃ + 2 → h₅ ≡ putBytes h₄ i₄ (le 2 d) → i₅ ≡ i₄ + 2 → h₆ ≡ putBytes h₅ i₅ (le 4 n)
+    → h₆ ≡ putBytes l 0 (le 8 b ++ (s ++ (le 2 t ++ (le 2 k ++ (le 2 d ++ le 4 n)))))
+check-put l h₁ h₂ h₃ h₄ h₅ h₆ s i₁ i₂ i₃ i₄ i₅ b t k d n h hs e₁ g₁ e₂ g₂ e₃ g₃ e₄ g₄ e₅ g₅ e₆ =
     let a₁ = length-append (le 8 b) s in
     let a₂ = length-append (le 8 b ++ s) (le 2 t) in
     let a₃ = length-append ((le 8 b ++ s) ++ le 2 t) (le 2 k) in
-    grow l h₄ h₅ (((le 8 b ++ s) ++ le 2 t) ++ le 2 k) (le 2 d) 0 i₄
+    let a₄ = length-append (((le 8 b ++ s) ++ le 2 t) ++ le 2 k) (le 2 d) in
+    grow l h₅ h₆ ((((le 8 b ++ s) ++ le 2 t) ++ le 2 k) ++ le 2 d) (le 4 n) 0 i₅
+    (grow l h₄ h₅ (((le 8 b ++ s) ++ le 2 t) ++ le 2 k) (le 2 d) 0 i₄
     (grow l h₃ h₄ ((le 8 b ++ s) ++ le 2 t) (le 2 k) 0 i₃
     (grow l h₂ h₃ (le 8 b ++ s) (le 2 t) 0 i₂
-    (grow l h₁ h₂ (le 8 b) s 0 i₁ e₁ e₂ g₁ (omega arith)) e₃ (omega arith) (omega arith)) e₄ (omega arith) (omega arith)) e₅ (omega arith) (omega arith)
+    (grow l h₁ h₂ (le 8 b) s 0 i₁ e₁ e₂ g₁ (omega arith)) e₃ (omega arith) (omega arith)) e₄ (omega arith) (omega arith)) e₅ (omega arith) (omega arith))
+    e₆ (omega arith) (omega arith)
     ∙ ap (putBytes l 0)
-    (append-assoc ((le 8 b ++ s) ++ le 2 t) (le 2 k) (le 2 d)
-    ∙ append-assoc (le 8 b ++ s) (le 2 t) (le 2 k ++ le 2 d)
-    ∙ append-assoc (le 8 b) s (le 2 t ++ (le 2 k ++ le 2 d)))
+    (append-assoc (((le 8 b ++ s) ++ le 2 t) ++ le 2 k) (le 2 d) (le 4 n)
+    ∙ append-assoc ((le 8 b ++ s) ++ le 2 t) (le 2 k) (le 2 d ++ le 4 n)
+    ∙ append-assoc (le 8 b ++ s) (le 2 t) (le 2 k ++ (le 2 d ++ le 4 n))
+    ∙ append-assoc (le 8 b) s (le 2 t ++ (le 2 k ++ (le 2 d ++ le 4 n))))
 
 pub fetch-put : (l h₁ h₂ h₃ s : Bytes) (i₁ i₂ n m : ℕ) → fetchInfoLength ≤ length l → length s ≡ markLength
     → h₁ ≡ putBytes l 0 (le 2 n) → i₁ ≡ 0 + 2 → h₂ ≡ putBytes h₁ i₁ (le 4 m) → i₂ ≡ i₁ + 4 → h₃ ≡ putBytes h₂ i₂ s

@@ -10,18 +10,18 @@ use Rattle.icepole.specs.Answers.{refusal, _when_, unless}
 use Rattle.reader.specs.declared.Checked.{Checked}
 use Rattle.reader.specs.declared.Fetched.{Fetched}
 use Rattle.reader.specs.Reader.{checkAnswer, recordRefusal, fetchAnswer, fetchOutput}
-use Rattle.burst.specs.Fields.{countWidth, offsetWidth, burstNumberWidth}
+use Rattle.burst.specs.Fields.{countWidth, offsetWidth, burstNumberWidth, cameraWidth}
 use Rattle.burst.specs.Parts.{markLength}
 
 -- ---- the infos as bytes
 abbrev pub checkInfoLength : ℕ
-checkInfoLength = burstNumberWidth + (markLength + 3 * countWidth)
+checkInfoLength = burstNumberWidth + (markLength + (3 * countWidth + cameraWidth))
 
--- burst number, site mark, taken, kept, dropped
+-- burst number, site mark, taken, kept, dropped, camera number
 abbrev pub checkedBytes : Checked → Bytes
 checkedBytes c =
     le burstNumberWidth (c .«burst_number»)
-    ++ (c .«site_mark» ++ (le countWidth (c .taken .0) ++ (le countWidth (c .kept .0) ++ le countWidth (c .dropped))))
+    ++ (c .«site_mark» ++ (le countWidth (c .taken .0) ++ (le countWidth (c .kept .0) ++ (le countWidth (c .dropped) ++ le cameraWidth (c .camera)))))
 
 abbrev pub fetchInfoLength : ℕ
 fetchInfoLength = countWidth + (offsetWidth + markLength)

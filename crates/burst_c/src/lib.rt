@@ -1,5 +1,6 @@
 // The C calls of include/burst.h.
 use burst::BURST_NUMBER_WIDTH;
+use burst::CAMERA_WIDTH;
 use burst::COUNT_WIDTH;
 use burst::MARK_BYTES;
 use burst::OFFSET_WIDTH;
@@ -21,7 +22,7 @@ ghost use Rattle.burst_c.specs.Calls.{checkCallInfo, placeOf, fetchCallR
 ghost use Rattle.burst.specs.Layout.{identified};
 
 // Bytes of what check and fetch put into the info.
-const CHECK_INFO: usize = BURST_NUMBER_WIDTH + MARK_BYTES + 3 * COUNT_WIDTH;
+const CHECK_INFO: usize = BURST_NUMBER_WIDTH + MARK_BYTES + 3 * COUNT_WIDTH + CAMERA_WIDTH;
 
 const FETCH_INFO: usize = COUNT_WIDTH + OFFSET_WIDTH + MARK_BYTES;
 
@@ -32,6 +33,7 @@ const LAST_PLACE: usize = 65535;
 pub extern "C" fn burst_replay(
     key: &[u8],
     burst_number: u64,
+    camera: u32,
     site_mark: &[u8],
     script: &[u8],
     buffer: &mut [u8],
@@ -39,11 +41,19 @@ pub extern "C" fn burst_replay(
     whole: &mut u32,
 ) -> usize
     ensures { λ n. ⌜ Replayed
-        (listOf (now (key .entry)) (identified «burst_number» (now («site_mark» .entry))) (length (now (buffer .entry))) (length (now (answers .entry))) (now (script .entry)))
+        (listOf (now (key .entry)) (identified «burst_number» camera (now («site_mark» .entry))) (length (now (buffer .entry))) (length (now (answers .entry))) (now (script .entry)))
         (now (answers .entry)) (now (answers .exit)) (now (buffer .entry)) (now (buffer .exit)) n ×
         (now (whole .exit) ≡ cond (wholeScript (length (now (answers .entry))) (now (script .entry))) 1 0) ⌝ }
 {
-    let p = replay::replay(key, burst_number, site_mark, script, buffer, answers);
+    let p = replay::replay(
+        key,
+        burst_number,
+        camera,
+        site_mark,
+        script,
+        buffer,
+        answers,
+    );
     if !p.whole {
         *whole = 0;
         return p.count;
@@ -61,7 +71,8 @@ fn put_checked(c: Checked, info: &mut [u8])
     let j = bytes_le::put_bytes(info, i, &site_mark);
     let k = bytes_le::store_le(info, j, COUNT_WIDTH, c.taken.0 as u64);
     let l = bytes_le::store_le(info, k, COUNT_WIDTH, c.kept.0 as u64);
-    bytes_le::store_le(info, l, COUNT_WIDTH, c.dropped as u64);
+    let m = bytes_le::store_le(info, l, COUNT_WIDTH, c.dropped as u64);
+    bytes_le::store_le(info, m, CAMERA_WIDTH, c.camera as u64);
 }
 
 #[no_mangle]

@@ -1,36 +1,36 @@
 -- Demand 3: the reader accepts exactly the files of the lists, and what it reads back of an accepted file makes that file.
 -- Assumes nothing.
-use mathlib.Core.Bool.{Bool, true, false, cond}
+use mathlib.Core.Bool.{Bool, true, false, cond, not}
 use mathlib.Core.List.{List, [], _∷_, _++_, append-assoc, append-nil}
 use mathlib.Core.Logic.{⊎-elim}
 use mathlib.Core.Path.{_≡_, refl, sym, ap, ap₂, subst, _∙_}
 use Prim.Native.Nat.{ℕ, zero, suc, _+_, _-_, _*_, _≤_, _<_}
 use native.Mathlib.Omega.{arith}
 use native.Mathlib.Nat.{eq-or-lt-of-le}
-use borrow.Author.Tests.{eqb-true, eqb-false}
+use borrow.Author.Tests.{eqb-true, eqb-false, ne-eqb}
 use lib.Dec.{eqb}
 use lib.ListN.{length, take, drop, replicate, length-append, length-drop, take-append-drop}
 use lib.Seq.{drop-drop, take-take, take-add, length-take-le, take-all}
 use Rattle.bytes_le.specs.Bytes.{Bytes, AllBytes, le, leAt}
-use Rattle.bytes_le.proofs.Laws.{length-part}
+use Rattle.bytes_le.proofs.Laws.{length-part, part-part}
 use Rattle.bytes_le.proofs.All.{all-take, all-drop, le-at, leAt-less}
 use Rattle.burst.specs.declared.Edition.{Edition}
 use Rattle.burst.specs.declared.Name.{Name}
 use Rattle.burst.specs.Fields.{fieldsLength}
-use Rattle.burst.specs.Editions.{Known}
+use Rattle.burst.specs.Editions.{noCamera, Known}
 use Rattle.burst.specs.Parts.{sealLength, sealPart, partMark, partBody, markLength}
-use Rattle.burst.specs.Layout.{Identity, headerRest, entryBytes, headerBytes, recordBytes, closingSeal, maxPicture}
+use Rattle.burst.specs.Layout.{Identity, identified, identityHeld, headerRest, entryBytes, headerBytes, recordBytes, closingSeal, maxPicture}
 use Rattle.burst.specs.Index.{indexRules}
-use Rattle.trace.specs.Plain.{Firing, kept, gap, pictures, gaps, usedBy, records, index, Plain, headerOf, indexOf, fileOf, byValue, Call, keepShot}
+use Rattle.trace.specs.Plain.{Firing, kept, gap, pictures, gaps, usedBy, records, index, Plain, newBurst, headerOf, indexOf, fileOf, byValue, Call, keepShot}
 use Rattle.trace.specs.Plain.{dropShot, closeBurst, CallList, numberOf, accepted, afterCall, afterCalls, begun, plainOf, beginNumberOf}
-use Rattle.burst.proofs.Rows.{numbered-among}
+use Rattle.burst.proofs.Rows.{numbered-among, camera-below}
 use Rattle.bits.proofs.Cases.{and-true}
-use Rattle.burst.proofs.Rules.{index-used}
+use Rattle.burst.proofs.Rules.{index-used, not-holds}
 use Rattle.burst.proofs.Numbers.{keep-0, drop-0, close-0, begin-0}
 use Rattle.burst.proofs.Parts.{part-sealed, length-mark, length-body, mark-bytes, body-bytes}
 use Rattle.reader.specs.declared.Checked.{Checked}
 use Rattle.reader.specs.declared.Verdict.the-variants.{Agree}
-use Rattle.reader.specs.Front.{editionIn, nameIn, allZero, restRules, takenIn, keptIn, droppedIn, indexOffsetIn, entryAt, entriesAt}
+use Rattle.reader.specs.Front.{editionIn, burstNumberIn, cameraOf, cameraIn, nameIn, allZero, restRules, takenIn, keptIn, droppedIn, indexOffsetIn, entryAt, entriesAt}
 use Rattle.reader.specs.Reader.{closingPart, recordPart, recordParts, agrees, markIn, bodyIn, verdictOn, checkAnswer}
 use Rattle.reader.proofs.Rules.{Front, entries-obey, entries-end}
 use Rattle.reader.proofs.Parts.{first-agrees}
@@ -272,27 +272,34 @@ module _ (ed : Edition) (q : Plain) (n : ℕ) where
       ∙ ap (λ (zs : List Firing). with q zs true) (append-assoc ys (gap ∷ []) xs)
 
 -- ---- a header's bytes
-zeros-are : (l : Bytes) → allZero l ≡ true → l ≡ replicate (length l) 0
+pub zeros-are : (l : Bytes) → allZero l ≡ true → l ≡ replicate (length l) 0
 zeros-are [] h = refl
 zeros-are (x ∷ xs) h = let g = and-true (eqb x 0) (allZero xs) h in ap₂ (λ (y : ℕ) (l : Bytes). y ∷ l) (eqb-true _ _ (g .0)) (zeros-are xs (g .1))
 
-rest-bytes : (f : Bytes) (e : Edition) (name : Name) → Known e → e .header ≤ length f → restRules e f ≡ true → take (e .header) f ≡ take fieldsLength f ++ headerRest e name
+rest-bytes : (f : Bytes) → AllBytes f → (e : Edition) (name : Name) → Known e → e .header ≤ length f → cameraOf e f ≡ name .camera → restRules e f ≡ true
+    → take (e .header) f ≡ take fieldsLength f ++ headerRest e name
 unfolding restRules headerRest
-rest-bytes f e name k h z =
+rest-bytes f fb e name k h camera z =
     let g = k .least in
-    let l : length (drop fieldsLength (take (e .header) f)) ≡ e .header - fieldsLength =
-    length-drop fieldsLength (take (e .header) f) ∙ ap (λ (n : ℕ). n - fieldsLength) (length-take-le (e .header) f h) in
-    sym (take-append-drop fieldsLength (take (e .header) f))
-    ∙ ap₂ (λ (x y : Bytes). x ++ y) (take-take fieldsLength (e .header) f g) (zeros-are _ z ∙ ap (λ (n : ℕ). replicate n 0) l)
+    let header = take (e .header) f in
+    let after = fieldsLength + e .camera in
+    let l : length (drop after header) ≡ e .header - after = length-drop after header ∙ ap (λ (n : ℕ). n - after) (length-take-le (e .header) f h) in
+    let zeros : drop (e .camera) (drop fieldsLength header) ≡ replicate (e .header - after) 0 =
+    drop-drop (e .camera) fieldsLength header ∙ zeros-are _ (and-true (not (noCamera e (cameraOf e f))) _ z .1) ∙ ap (λ (n : ℕ). replicate n 0) l in
+    let number : take (e .camera) (drop fieldsLength header) ≡ le (e .camera) (name .camera) =
+    part-part f (e .header) fieldsLength (e .camera) g ∙ sym (le-at f fb (e .camera) fieldsLength (omega arith)) ∙ ap (le (e .camera)) camera in
+    sym (take-append-drop fieldsLength header)
+    ∙ ap₂ (λ (x y : Bytes). x ++ y) (take-take fieldsLength (e .header) f (omega arith))
+    (sym (take-append-drop (e .camera) (drop fieldsLength header)) ∙ ap₂ (λ (x y : Bytes). x ++ y) number zeros)
 
-header-bytes : (e : Edition) → Known e → (name : Name) (f : Bytes) → AllBytes f → e .header ≤ length f → restRules e f ≡ true
+header-bytes : (e : Edition) → Known e → (name : Name) (f : Bytes) → AllBytes f → e .header ≤ length f → cameraOf e f ≡ name .camera → restRules e f ≡ true
     → (t k d u : ℕ) → leAt 2 f 0 ≡ e .number → leAt 2 f 2 ≡ t → leAt 2 f 4 ≡ k → leAt 2 f 6 ≡ d → leAt 8 f 8 ≡ name .«burst_number» → leAt 4 f 16 ≡ e .header → leAt 4 f 20 ≡ u
     → leAt 4 f 24 ≡ u + 12 * k → leAt 4 f 28 ≡ u + 12 * k + 32 → headerBytes e name t k d u ≡ take (e .header) f
 unfolding headerBytes
-header-bytes e known name f fb h z t k d u e₀ e₁ e₂ e₃ e₄ e₅ e₆ e₇ e₈ =
+header-bytes e known name f fb h camera z t k d u e₀ e₁ e₂ e₃ e₄ e₅ e₆ e₇ e₈ =
     let n = name .«burst_number» in
     let w = known .least in
-    let rb = rest-bytes f e name known h z in
+    let rb = rest-bytes f fb e name known h camera z in
     let g₀ : le 2 (e .number) ≡ take 2 f = ap (le 2) (sym e₀) ∙ le-at f fb 2 0 (omega arith) in
     let g₁ : le 2 t ≡ take 2 (drop 2 f) = ap (le 2) (sym e₁) ∙ le-at f fb 2 2 (omega arith) in
     let g₂ : le 2 k ≡ take 2 (drop 4 f) = ap (le 2) (sym e₂) ∙ le-at f fb 2 4 (omega arith) in
@@ -390,8 +397,21 @@ module _ (key f : Bytes) (kb : AllBytes key) (fb : AllBytes f) (ok : Accepted ke
   abbrev p : Plain
   p = record { key = key; identity = who; shots = xs; closed = true }
 
+  wanted : noCamera (editionIn f) (cameraIn f) ≡ false
+  unfolding restRules
+  wanted = not-holds _ (and-true (not (noCamera (editionIn f) (cameraIn f))) _ (fr .rest) .0)
+
   begins-0 : beginNumberOf (editionIn f) l ≡ 0
-  begins-0 = sym (begin-0 (editionIn f) (length key) (length m) (length f) (ok .key16) site16 (fr .least))
+  begins-0 = sym (begin-0 (editionIn f) (length key) (length m) (cameraIn f) (length f) (ok .key16) site16 wanted (fr .least))
+
+  -- the file's camera number is the one that a burst of its edition holds
+  held-in : identityHeld (editionIn f) who ≡ who
+  unfolding leAt
+  held-in = ap (λ (n : ℕ). identified (burstNumberIn f) n m) (by (editionIn f .camera))
+    where
+      by : (c : ℕ) → cond (not (eqb c 0)) (leAt c f 32) 0 ≡ leAt c f 32
+      by zero = refl
+      by (suc c) = simp (ne-eqb (suc c) 0 (λ i. omega arith))
 
   plain-is : plainOf (editionIn f) l ≡ p
   unfolding plainOf begun
@@ -402,14 +422,16 @@ module _ (key f : Bytes) (kb : AllBytes key) (fb : AllBytes f) (ok : Accepted ke
       let c₃ = b .size in
       let w = end-is in
       let c₄ = fr .most in
-      simp begins-0 (runs (editionIn f) p (length f) xs [] (b .valid) (omega arith) (omega arith))
+      simp begins-0
+      (ap (λ (i : Identity). afterCalls (editionIn f) (length f) (newBurst key i) (callsOf xs)) held-in
+      ∙ runs (editionIn f) p (length f) xs [] (b .valid) (omega arith) (omega arith))
 
   heads : headerBytes (editionIn f) (nameIn f) (length xs) (pictures xs) (gaps xs) (usedBy (editionIn f .header) xs) ≡ take (editionIn f .header) f
   heads =
       let b = made in
       let g : gaps xs ≡ droppedIn f = let c₁ = b .kept in let c₂ = b .size in let c₃ = fr .counts in let c₄ = pictures-gaps xs in omega arith in
       let e : headerBytes (editionIn f) (nameIn f) (takenIn f) k (droppedIn f) i ≡ take (editionIn f .header) f =
-      header-bytes (editionIn f) (fr .known) (nameIn f) f fb (let a = fr .least in omega arith) (fr .rest) (takenIn f) k (droppedIn f) i
+      header-bytes (editionIn f) (fr .known) (nameIn f) f fb (let a = fr .least in omega arith) refl (fr .rest) (takenIn f) k (droppedIn f) i
       (fr .edition) refl refl refl refl (fr .pictures) refl (fr .closing)
       (fr .total ∙ ap (λ (n : ℕ). n + 32) (fr .closing)) in
       cc (b .size, b .kept, g, b .ends, e)
@@ -444,7 +466,7 @@ module _ (key f : Bytes) (kb : AllBytes key) (fb : AllBytes f) (ok : Accepted ke
     list = l;
     filed = record {
       listed = numbered-among _;
-      named = leAt-less f fb 8 8;
+      named = (leAt-less f fb 8 8, camera-below (editionIn f) (fr .known) _ (leAt-less f fb (editionIn f .camera) 32));
       reached = record { begun = begins-0; closed = ap (λ (x : Plain). x .closed) plain-is };
     };
     typed = record {
@@ -480,7 +502,7 @@ reads key f kb fb h =
     let g₀ = gives-back ed (w .list) (w .filed) in
     let g = subst (λ (x : Bytes). GivenBack ed key x p) (w .file) (subst (λ (x : Bytes). GivenBack ed x (fileOf ed p) p) (w .keyed) g₀) in
     let c = g .checked in
-    let fp = fine ed (w .list) (w .filed .reached) in
+    let fp = fine ed (w .list) (w .filed .reached .begun) in
     record {
       counts = ap (λ (x : Checked). x .taken .0) c ∙ g .counts ∙ sym (ap₂ (λ (a b : ℕ). a + b) (ap (λ (x : Checked). x .kept .0) c) (ap (λ (x : Checked). x .dropped) c));
       file =

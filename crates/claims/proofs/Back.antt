@@ -1,6 +1,6 @@
 -- Demand 3: the reader gives the list back, no file belongs to two bursts, and what is refused is withheld.
 -- Assumes nothing.
-use mathlib.Core.Bool.{true}
+use mathlib.Core.Bool.{Bool, true, false, cond, _&&_}
 use mathlib.Core.List.{List, [], _∷_, _++_, append-nil}
 use mathlib.Core.Option.{some, Option·some-injective}
 use mathlib.Core.Path.{_≡_, refl, sym, ap, ap₂, subst, _∙_}
@@ -8,6 +8,7 @@ use Prim.Native.Nat.{ℕ, zero, suc, _+_, _*_, _^_, _≤_, _<_}
 use native.Mathlib.Omega.{arith}
 use native.Mathlib.Nat.{add-zero}
 use borrow.Author.Tests.{le-leb, eq-eqb, ne-eqb}
+use lib.Dec.{eqb}
 use lib.ListN.{length, take, drop, length-append, length-replicate}
 use lib.Seq.{take-at, drop-at, drop-drop}
 use Rattle.bytes_le.specs.Bytes.{Bytes, putBytes}
@@ -15,13 +16,14 @@ use Rattle.bytes_le.proofs.Laws.{take-put}
 use Rattle.burst.specs.declared.Entry.{Entry}
 use Rattle.burst.specs.declared.Edition.{Edition}
 use Rattle.burst.specs.declared.Name.{Name}
-use Rattle.burst.specs.Editions.{maxEntries, numbered, Known}
-use Rattle.burst.specs.Parts.{Fits, partAgrees, partMark, keyLength, markLength}
+use Rattle.burst.specs.Editions.{maxEntries, numbered, hasCamera, cameraHeld, noCamera, Known}
+use Rattle.burst.specs.Parts.{partAgrees, partMark, keyLength, markLength}
 use Rattle.burst.specs.Layout.{maxPicture, Identity, headerBytes, recordBytes, closingSeal}
 use Rattle.burst.specs.Index.{indexRules}
 use Rattle.trace.specs.Plain.{Firing, kept, gap, pictures, gaps, usedBy, records, index, Plain, headerOf, indexOf, fileOf, CallList, plainOf}
 use Rattle.bits.proofs.Cases.{zero-or-not}
-use Rattle.burst.proofs.Rows.{known, written-among}
+use Rattle.burst.proofs.Rows.{known, written-among, camera-held}
+use Rattle.burst.proofs.Numbers.{begins}
 use Rattle.burst.proofs.Puts.{length-header}
 use Rattle.burst.proofs.Parts.{part-agrees, part-mark}
 use Rattle.reader.specs.declared.Checked.{Checked}
@@ -36,13 +38,13 @@ use Rattle.reader.proofs.Answers.{found, record-zero, record-refused, record-do
 use Rattle.trace.specs.Agreement.{editionFor}
 use Rattle.trace.proofs.Agreement.{agreement}
 use Rattle.trace.proofs.Shots.{Valid, pictures-gaps, used-least, used-most, length-index, length-records, length-closing, sound-entries}
-use Rattle.claims.specs.Demand3.{SameBurst, Filed, OneBurst, Picture, pictureAt, whole, readFrom, readShots, GivenBack, GivesBack, OnCard, Withheld, Withholds, nameGiven}
+use Rattle.claims.specs.Demand3.{SameBurst, Filed, OneBurst, Picture, pictureAt, whole, readFrom, readShots, GivenBack, GivesBack, OnCard, Withheld, Withholds}
 use Rattle.claims.proofs.Lists.{fine}
-use Rattle.claims.proofs.Reading.{HeaderIn, header-in, entries-read, records-agree, Placed, placed, every, below}
+use Rattle.claims.proofs.Reading.{Named, HeaderIn, header-in, entries-read, records-agree, Placed, placed, every, below}
 
 -- ---- the file of a plain burst
 module _ (ed : Edition) (known-ed : Known ed) (p : Plain) (valid : Valid (p .shots)) (most : length (p .shots) ≤ ed .shots)
-    (key16 : length (p .key) ≡ keyLength) (site16 : length (p .identity .siteMark) ≡ markLength) (fits : Fits ed (p .identity .name)) where
+    (key16 : length (p .key) ≡ keyLength) (site16 : length (p .identity .siteMark) ≡ markLength) (fits : Named ed (p .identity .name)) where
   abbrev xs : List Firing
   xs = p .shots
 
@@ -160,10 +162,11 @@ module _ (ed : Edition) (known-ed : Known ed) (p : Plain) (valid : Valid (p .sho
     taken = record { 0 = length xs };
     kept = record { 0 = pictures xs };
     dropped = gaps xs;
+    camera = p .identity .name .camera;
   }
   checked =
-      sym (check-0 (p .key) f key16 front-holds (closing-opens .0) records-open (headerIn f) refl (markIn (p .key) f (closingPart f)) refl)
-      ∙ cc (ap (λ (n : Name). n .«burst_number») (headed .named), headed .taken, headed .kept, headed .dropped, closing-opens .1)
+      sym (check-0 (p .key) f key16 front-holds (closing-opens .0) records-open (headerIn f) refl (markIn (p .key) f (closingPart f)) refl (nameIn f) refl)
+      ∙ cc (ap (λ (n : Name). n .«burst_number») (headed .named), ap (λ (n : Name). n .camera) (headed .named), headed .taken, headed .kept, headed .dropped, closing-opens .1)
 
   -- ---- a place
   place-at : (place : ℕ) (w : Picture) → pictureAt 1 (ed .header) xs place ≡ some w → Placed f (p .key) (length xs) u few (let c = bound in omega arith) (positionOf f place) w
@@ -282,7 +285,7 @@ picture-most (kept s p ∷ xs) n at (suc place) w v h = picture-most xs (n + 1) 
 picture-most (gap ∷ xs) n at place w v h = picture-most xs (n + 1) at place w v h
 
 module _ (ed : Edition) (known-ed : Known ed) (p : Plain) (valid : Valid (p .shots)) (most : length (p .shots) ≤ ed .shots)
-    (key16 : length (p .key) ≡ keyLength) (site16 : length (p .identity .siteMark) ≡ markLength) (fits : Fits ed (p .identity .name)) where
+    (key16 : length (p .key) ≡ keyLength) (site16 : length (p .identity .siteMark) ≡ markLength) (fits : Named ed (p .identity .name)) where
   all-given : Gives (p .key) (fileOf ed p) (p .shots) 1 (ed .header) 0
   all-given =
       let z : (j : ℕ) → 0 + j ≡ j = λ j. omega arith in
@@ -312,13 +315,27 @@ module _ (ed : Edition) (known-ed : Known ed) (p : Plain) (valid : Valid (p .sho
     shots = all-read;
   }
 
--- the plain burst of a list has the list's name
-fits : (e : Edition) (l : CallList) → Filed e l → Fits e (plainOf e l .identity .name)
-fits e l w = subst (λ (i : Identity). Fits e (i .name)) (sym (fine e l (w .reached) .identity)) (w .named)
+-- where a camera number is wanted it was given, and is held
+no-camera-held : (e : Edition) (n : ℕ) → noCamera e n ≡ false → noCamera e (cameraHeld e n) ≡ false
+no-camera-held e n = by (hasCamera e)
+  where
+    by : (b : Bool) → (b && eqb n 0) ≡ false → (b && eqb (cond b n 0) 0) ≡ false
+    by true h = h
+    by false h = refl
+
+-- the plain burst of a list has the list's name, as its edition holds it
+fits : (e : Edition) (l : CallList) → Filed e l → Named e (plainOf e l .identity .name)
+fits e l w =
+    let n = l .identity .name in
+    subst (λ (i : Identity). Named e (i .name)) (sym (fine e l (w .reached .begun) .identity)) (record {
+      number = w .named .0;
+      camera = camera-held e (known e (w .listed)) (n .camera) (w .named .1);
+      given = no-camera-held e (n .camera) (begins _ _ _ _ _ (w .reached .begun) .camera);
+    })
 
 pub gives-back : GivesBack
 gives-back e l w =
-    let g = fine e l (w .reached) in
+    let g = fine e l (w .reached .begun) in
     subst (λ (k : Bytes). GivenBack e k (fileOf e (plainOf e l)) (plainOf e l)) (g .key)
     (given-back e (known e (w .listed)) (plainOf e l) (g .valid) (g .most) (g .key16) (g .site16) (fits e l w))
 
@@ -334,7 +351,8 @@ same-burst : (e : Edition) (key f : Bytes) (p p′ : Plain) → GivenBack e key 
 same-burst e key f p p′ g g′ =
     let c = sym (g .checked) ∙ g′ .checked in
     record {
-      name = ap nameGiven c;
+      burstNumber = ap (λ (x : Checked). x .«burst_number») c;
+      camera = ap (λ (x : Checked). x .camera) c;
       siteMark = ap (λ (x : Checked). x .«site_mark») c;
       shots = sym (g .shots) ∙ g′ .shots;
     }

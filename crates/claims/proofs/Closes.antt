@@ -8,6 +8,7 @@ use native.Mathlib.Omega.{arith}
 use lib.Dec.{eqb}
 use Rattle.burst.specs.declared.Edition.{Edition}
 use Rattle.burst.proofs.Rules.{refuted, clash}
+use Rattle.burst.specs.Layout.{identityHeld}
 use Rattle.burst.proofs.Numbers.{keeps, begins, close-0}
 use Rattle.trace.specs.Plain.{kept, gap, pictures, usedBy, Plain, newBurst, noBurst, Call, keepShot, dropShot, closeBurst, CallList, Answer, totalOf}
 use Rattle.trace.specs.Plain.{numberOf, accepted, valueOf, afterCall, answerOf, afterCalls, answersOf, begun, plainOf, plainAnswers, beginNumberOf}
@@ -56,8 +57,8 @@ module _ (ed : Edition) (l : CallList) (z : beginNumberOf ed l ≡ 0) (unclosed 
   room-begun : Room ed (l .bufferLength) (begun ed l)
   unfolding begun
   room-begun =
-      let w = begins _ _ _ _ z .room in
-      subst (λ (k : ℕ). Room ed (l .bufferLength) (cond (eqb k 0) (newBurst (l .key) (l .identity)) noBurst)) (sym z) (λ h. omega arith)
+      let w = begins _ _ _ _ _ z .room in
+      subst (λ (k : ℕ). Room ed (l .bufferLength) (cond (eqb k 0) (newBurst (l .key) (identityHeld ed (l .identity))) noBurst)) (sym z) (λ h. omega arith)
 
   is-open : plainOf ed l .closed ≡ false
   is-open = sym (refuted _ (λ c. unclosed (reached-answered ed l (record { begun = z; closed = c }))))

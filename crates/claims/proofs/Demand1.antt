@@ -53,7 +53,7 @@ use Rattle.claims.specs.RoundLogs.{LogOf}
 use Rattle.claims.specs.Demand1.{Refusal, _on_, FirstOf, SealNumber, Seal, orderOfOpen, orderOfVerify, OpenNumber, NoRoomToOpen, Verify, Open, OpenCall}
 use Rattle.claims.specs.Demand1.{OpenInPlace, OpenInPlaceCall, orderOfStart, StartNumber, Start, orderOfStrip, Strip, orderOfEnd, End, StartCall, StripCall, EndCall, Begin, Keep, Drop, Close}
 use Rattle.claims.specs.Demand1.{InList, orderOfCheck, Check, orderAtPlace, Record, NoRoomToFetch, Fetch, CheckCall, FetchCall, Print, CheckLog, Drive, RunRounds, Demand1}
-use Rattle.claims.proofs.Orders.{Tells, differs, less, at-most, fails, holds, either, first, Row, row, by-tests, NoZero, behind, then-tests}
+use Rattle.claims.proofs.Orders.{Tells, differs, equals, less, at-most, fails, holds, either, first, Row, row, by-tests, NoZero, behind, then-tests}
 
 one-more : (n : ℕ) → suc n ≢ 0
 one-more n e = omega arith
@@ -272,12 +272,13 @@ module _ (state out : Bytes) where
 -- ---- the recorder
 module _ (key : Bytes) (i : Identity) (buffer : Bytes) where
   begins : Begin key i buffer
-  unfolding beginAnswer beginBuffer beginRefusal beginNumber
+  unfolding beginAnswer beginBuffer beginRefusal beginNumber written
   begins = record {
     order =
         by-tests
         (row 1 (differs (length key) keyLength)
         ∷ row 3 (differs (length (i .siteMark)) markLength)
+        ∷ row 15 (equals (i .name .camera) 0)
         ∷ row 11 (less (length buffer) (totalFrom (written (length key) .header) 0))
         ∷ []);
     refused = λ h. let z = ne-eqb _ 0 h in (simp z, simp z);

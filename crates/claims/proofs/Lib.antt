@@ -16,3 +16,4 @@ pub mod Closes
 pub mod Back
 pub mod Accept
 pub mod Demand3
+pub mod OneKey

@@ -13,7 +13,7 @@ use Rattle.bits.proofs.Cases.{zero-or-not}
 use Rattle.bytes_le.specs.Bytes.{Bytes}
 use Rattle.burst.specs.declared.Edition.{Edition}
 use Rattle.burst.specs.Parts.{keyLength, markLength}
-use Rattle.burst.specs.Layout.{Identity}
+use Rattle.burst.specs.Layout.{Identity, identityHeld}
 use Rattle.trace.specs.Plain.{kept, gap, Plain, newBurst, noBurst, Way, Call, keepShot, dropShot, closeBurst, CallList, numberOf}
 use Rattle.trace.specs.Plain.{accepted, afterCall, answerOf, afterCalls, answersOf, begun, plainOf, plainAnswers, beginNumberOf}
 use Rattle.burst.proofs.Rules.{clash}
@@ -76,12 +76,12 @@ module _ (ed : Edition) where
       fine-after p [] g = g
       fine-after p (c ∷ cs) g = fine-after (afterCall ed n p c) cs (taken-on p c (Fine k i) (fine-accepted p c g) g)
 
-  pub fine : (l : CallList) → Reached ed l → Fine (l .key) (l .identity) (plainOf ed l)
+  pub fine : (l : CallList) → beginNumberOf ed l ≡ 0 → Fine (l .key) (identityHeld ed (l .identity)) (plainOf ed l)
   unfolding plainOf begun
-  fine l r =
-      let w = begins _ _ _ _ (r .begun) in
-      fine-after (l .bufferLength) (l .key) (l .identity) (begun ed l) (l .calls)
-      (subst (λ (z : ℕ). Fine (l .key) (l .identity) (cond (eqb z 0) (newBurst (l .key) (l .identity)) noBurst)) (sym (r .begun))
+  fine l z =
+      let w = begins _ _ _ _ _ z in
+      fine-after (l .bufferLength) (l .key) (identityHeld ed (l .identity)) (begun ed l) (l .calls)
+      (subst (λ (z : ℕ). Fine (l .key) (identityHeld ed (l .identity)) (cond (eqb z 0) (newBurst (l .key) (identityHeld ed (l .identity))) noBurst)) (sym z)
       (record { key = refl; identity = refl; valid = tt; most = omega arith; key16 = w .key; site16 = w .mark }))
 
   -- ---- closed, exactly if a close was answered 0

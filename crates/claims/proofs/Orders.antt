@@ -19,6 +19,9 @@ pub record Tells (b : Bool) (c : Type 0) : Type 0 where
 pub differs : (a b : ℕ) → Tells (not (eqb a b)) (a ≢ b)
 differs a b = record { yes = λ h. eqb-false a b (not-true _ h); no′ = λ h d. d (eqb-true a b (not-false _ h)) }
 
+pub equals : (a b : ℕ) → Tells (eqb a b) (a ≡ b)
+equals a b = record { yes = eqb-true a b; no′ = eqb-false a b }
+
 pub less : (a b : ℕ) → Tells (ltb a b) (a < b)
 less a b = record { yes = ltb-true a b; no′ = λ h l. let g = ltb-false a b h in omega arith }
 

@@ -1,27 +1,28 @@
 -- The file of a plain burst, read: header, index and records stand where the reader looks for them, and every seal opens to what was sealed.
 -- Assumes nothing.
-use mathlib.Core.Bool.{true}
+use mathlib.Core.Bool.{Bool, true, false, not, _&&_}
 use mathlib.Core.List.{List, [], _∷_, _++_, append-assoc}
+use mathlib.Core.Logic.{_⊎_, inl, inr}
 use mathlib.Core.Option.{some, Option·some-injective}
 use mathlib.Core.Path.{_≡_, refl, sym, ap, ap₂, subst, _∙_}
 use Prim.Native.Nat.{ℕ, zero, suc, _+_, _-_, _*_, _^_, _≤_, _<_}
 use native.Mathlib.Omega.{arith}
 use lib.ListN.{length, take, drop, replicate}
 use lib.Seq.{take-at, drop-at, drop-drop}
-use Rattle.bytes_le.specs.Bytes.{Bytes, unle, leAt}
-use Rattle.bytes_le.proofs.Laws.{unle-2, unle-4, unle-8}
+use Rattle.bytes_le.specs.Bytes.{Bytes, le, unle, leAt}
+use Rattle.bytes_le.proofs.Laws.{length-le, unle-2, unle-4, unle-8}
 use Rattle.burst.specs.declared.Entry.{Entry}
 use Rattle.burst.specs.declared.Edition.{Edition}
 use Rattle.burst.specs.declared.Name.{Name}
-use Rattle.burst.specs.Fields.{fieldsLength}
-use Rattle.burst.specs.Editions.{maxEntries, Known}
-use Rattle.burst.specs.Parts.{Fits, partAgrees, partMark, partBody, markLength}
+use Rattle.burst.specs.Fields.{fieldsLength, burstNumberWidth}
+use Rattle.burst.specs.Editions.{numbered, noCamera, maxEntries, Known}
+use Rattle.burst.specs.Parts.{partAgrees, partMark, partBody, markLength}
 use Rattle.burst.specs.Layout.{headerRest, entryBytes, headerBytes, recordBytes}
 use Rattle.burst.specs.Index.{entryOf}
 use Rattle.trace.specs.Plain.{Firing, kept, gap, pictures, usedBy, records, index}
 use Rattle.burst.proofs.Puts.{length-header}
 use Rattle.burst.proofs.Parts.{part-agrees, part-mark, part-body}
-use Rattle.reader.specs.Front.{editionIn, nameIn, allZero, restRules, editionNumberIn, takenIn, keptIn, droppedIn}
+use Rattle.reader.specs.Front.{editionIn, cameraOf, nameIn, allZero, zerosOf, restRules, editionNumberIn, takenIn, keptIn, droppedIn}
 use Rattle.reader.specs.Front.{pictureOffsetIn, indexOffsetIn, closingOffsetIn, totalIn, entryAt, entriesAt}
 use Rattle.reader.specs.declared.Verdict.the-variants.{Agree}
 use Rattle.reader.specs.Reader.{Part, recordPart, recordParts, agrees, markIn, bodyIn, sealedIn, verdictOn}
@@ -171,6 +172,32 @@ all-zero : (n : ℕ) → allZero (replicate n 0) ≡ true
 all-zero zero = refl
 all-zero (suc n) = all-zero n
 
+-- what is known of the name of a burst that has a file: its numbers fit the file's fields, and a camera number is not 0
+pub record Named (e : Edition) (name : Name) : Type 0 where
+  pub number : name .«burst_number» < 256 ^ burstNumberWidth
+  pub camera : name .camera < 256 ^ e .camera
+  pub given : noCamera e (name .camera) ≡ false
+
+-- the camera number, at the front of the header's rest
+rest-camera : (e : Edition) → Known e → (name : Name) → name .camera < 256 ^ e .camera → (rest : Bytes) → unle (take (e .camera) (headerRest e name ++ rest)) ≡ name .camera
+unfolding headerRest
+rest-camera e known name h rest =
+    let z : Bytes = replicate (e .header - (fieldsLength + e .camera)) 0 in
+    ap (λ (l : Bytes). unle (take (e .camera) l)) (append-assoc (le (e .camera) (name .camera)) z rest)
+    ∙ ap unle (take-at (le (e .camera) (name .camera)) (z ++ rest) (e .camera) (length-le (e .camera) (name .camera)))
+    ∙ by (e .camera) (known .camera) h
+  where
+    by : (c : ℕ) → (c ≡ 0) ⊎ (c ≡ 4) → name .camera < 256 ^ c → unle (le c (name .camera)) ≡ name .camera
+    by c (inl q) l = subst (λ (k : ℕ). name .camera < 256 ^ k → unle (le k (name .camera)) ≡ name .camera) (sym q) (λ l. omega arith) l
+    by c (inr q) l = subst (λ (k : ℕ). name .camera < 256 ^ k → unle (le k (name .camera)) ≡ name .camera) (sym q) (λ l. unle-4 (name .camera) l) l
+
+-- and the zeros behind it
+rest-zeros : (e : Edition) (name : Name) → allZero (drop (e .camera) (headerRest e name)) ≡ true
+unfolding headerRest
+rest-zeros e name =
+    let z : Bytes = replicate (e .header - (fieldsLength + e .camera)) 0 in
+    ap allZero (drop-at (le (e .camera) (name .camera)) z (e .camera) (length-le (e .camera) (name .camera))) ∙ all-zero (e .header - (fieldsLength + e .camera))
+
 module _ (e : Edition) (known : Known e) (name : Name) where
   pub record HeaderIn (f rest : Bytes) (t k d u : ℕ) : Type 0 where
     pub edition : editionNumberIn f ≡ e .number
@@ -186,24 +213,34 @@ module _ (e : Edition) (known : Known e) (name : Name) where
     pub others : restRules e f ≡ true
     pub next : drop (e .header) f ≡ rest
 
-  pub header-in : (f rest : Bytes) (t k d u : ℕ) → t < 2 ^ 16 → k < 2 ^ 16 → d < 2 ^ 16 → Fits e name → u + 12 * k + 32 < 2 ^ 32
+  pub header-in : (f rest : Bytes) (t k d u : ℕ) → t < 2 ^ 16 → k < 2 ^ 16 → d < 2 ^ 16 → Named e name → u + 12 * k + 32 < 2 ^ 32
       → f ≡ headerBytes e name t k d u ++ rest → HeaderIn f rest t k d u
-  unfolding leAt headerBytes headerRest restRules
+  unfolding leAt headerBytes restRules
   header-in f rest t k d u ht hk hd hn hu q =
       let g = known .header in
       let l = length-header e known name t k d u in
       let h : take (e .header) f ≡ headerBytes e name t k d u = ap (take (e .header)) q ∙ take-at (headerBytes e name t k d u) rest (e .header) l in
+      let n : editionNumberIn f ≡ e .number = ap (λ (l : Bytes). unle (take 2 l)) q ∙ unle-2 (e .number) (known .number) in
+      let row : editionIn f ≡ e = ap numbered n ∙ known .back in
+      let camera : cameraOf e f ≡ name .camera = ap (λ (l : Bytes). unle (take (e .camera) (drop 32 l))) q ∙ rest-camera e known name (hn .camera) rest in
+      let zeros : allZero (zerosOf e f) ≡ true =
+      ap (λ (l : Bytes). allZero (drop (32 + e .camera) l)) h
+      ∙ ap allZero (sym (drop-drop (e .camera) 32 (headerBytes e name t k d u)))
+      ∙ rest-zeros e name in
       record {
-        edition = ap (λ (l : Bytes). unle (take 2 l)) q ∙ unle-2 (e .number) (known .number);
+        edition = n;
         taken = ap (λ (l : Bytes). unle (take 2 (drop 2 l))) q ∙ unle-2 t ht;
         kept = ap (λ (l : Bytes). unle (take 2 (drop 4 l))) q ∙ unle-2 k hk;
         dropped = ap (λ (l : Bytes). unle (take 2 (drop 6 l))) q ∙ unle-2 d hd;
-        named = ap (λ (b : ℕ). let n : Name = record { «burst_number» = b } in n) (ap (λ (l : Bytes). unle (take 8 (drop 8 l))) q ∙ unle-8 (name .«burst_number») hn);
+        named =
+            ap₂ (λ (b m : ℕ). let n : Name = record { «burst_number» = b; camera = m } in n)
+            (ap (λ (l : Bytes). unle (take 8 (drop 8 l))) q ∙ unle-8 (name .«burst_number») (hn .number))
+            (ap (λ (e : Edition). cameraOf e f) row ∙ camera);
         pictures = ap (λ (l : Bytes). unle (take 4 (drop 16 l))) q ∙ unle-4 (e .header) (omega arith);
         index = ap (λ (l : Bytes). unle (take 4 (drop 20 l))) q ∙ unle-4 u (omega arith);
         closing = ap (λ (l : Bytes). unle (take 4 (drop 24 l))) q ∙ unle-4 (u + 12 * k) (omega arith);
         total = ap (λ (l : Bytes). unle (take 4 (drop 28 l))) q ∙ unle-4 (u + 12 * k + 32) hu;
         header = h;
-        others = ap (λ (l : Bytes). allZero (drop fieldsLength l)) h ∙ all-zero (e .header - fieldsLength);
+        others = ap₂ (λ (m : ℕ) (b : Bool). not (noCamera e m) && b) camera zeros ∙ simp (hn .given);
         next = ap (drop (e .header)) q ∙ drop-at (headerBytes e name t k d u) rest (e .header) l;
       }

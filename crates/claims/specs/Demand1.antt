@@ -248,7 +248,7 @@ module _ (state out : Bytes) where
     pub order : FirstOf (endCallRefusal state out) ((5 on NoState state) ∷ orderOfEnd (stripStateIn state) out)
     pub refused : endCallRefusal state out ≢ 0 → (endCallState state out ≡ state) × (endCallOutput state out ≡ out)
 
--- ---- the recorder. Begin: 1, 3, 11
+-- ---- the recorder. Begin: 1, 3, 15 (02, N1), 11
 module _ (key : Bytes) (i : Identity) (buffer : Bytes) where
   abbrev beginning : ℕ
   beginning = beginAnswer key i buffer .refusal
@@ -258,6 +258,7 @@ module _ (key : Bytes) (i : Identity) (buffer : Bytes) where
         FirstOf beginning
         ((1 on (length key ≢ keyLength))
         ∷ (3 on (length (i .siteMark) ≢ markLength))
+        ∷ (15 on (i .name .camera ≡ 0))
         ∷ (11 on (length buffer < totalFrom (written (length key) .header) 0))
         ∷ [])
     pub refused : beginning ≢ 0

@@ -1,11 +1,11 @@
--- Demand 3, over whole lists of calls (01, "Recorder", "Reader"): a begin, then keep, drop (by value or in place) and close in any order, refused ones
+-- Demand 3, over whole lists of calls (01, "Recorder", "Reader"; 02, N1): a begin, then keep, drop (by value or in place) and close in any order, refused ones
 -- among them.
 --   agrees      numbers, shot numbers and totals equal those of the plain burst, and after an accepted close the front of the buffer is its file
 --   answered    an accepted close is one that was answered 0
 --   closes      a burst that was begun and is not closed can be closed next
---   one-burst   no file belongs to two bursts under its key
+--   one-burst   no file belongs to two bursts under its key, nor to two editions
 --   accepts     the reader accepts exactly the files of such lists
---   gives-back  it then gives back burst number, site mark and the list of shots, with taken = kept + dropped
+--   gives-back  it then gives back burst number, camera number, site mark and the list of shots, with taken = kept + dropped
 --   on-card     so too from the front of the buffer that the list leaves
 --   reads       and of every accepted file, what was read back makes that file again, as one of the file's own edition
 --   withholds   otherwise it releases no picture byte
@@ -64,14 +64,15 @@ AlwaysCloses = (l : CallList) (b : Bytes) → length b ≡ l .bufferLength → f
 
 -- ---- no file belongs to two bursts under its key
 pub record SameBurst (p p′ : Plain) : Type 0 where
-  pub name : p .identity .name ≡ p′ .identity .name
+  pub burstNumber : p .identity .name .«burst_number» ≡ p′ .identity .name .«burst_number»
+  pub camera : p .identity .name .camera ≡ p′ .identity .name .camera
   pub siteMark : p .identity .siteMark ≡ p′ .identity .siteMark
   pub shots : p .shots ≡ p′ .shots
 
 -- a list whose burst has a file as one of edition e: e is a row, the name's numbers fit, and there is an accepted close
 pub record Filed (e : Edition) (l : CallList) : Type 0 where
   pub listed : e among editions
-  pub named : Fits e (l .identity .name)
+  pub named : Fits (l .identity .name)
   pub reached : Reached e l
 
 -- two lists, each read as one of any row
@@ -156,6 +157,7 @@ pub record GivenBack (e : Edition) (key f : Bytes) (p : Plain) : Type 0 where
     taken = record { 0 = length (p .shots) };
     kept = record { 0 = pictures (p .shots) };
     dropped = gaps (p .shots);
+    camera = p .identity .name .camera;
   }
   pub counts : length (p .shots) ≡ pictures (p .shots) + gaps (p .shots)
   -- at every place below kept, into an output that holds the picture
@@ -176,7 +178,7 @@ GivesBack = (e : Edition) (l : CallList) → Filed e l → GivenBack e (l .key) 
 -- ---- of every accepted file
 -- what check says of the name
 abbrev pub nameGiven : Checked → Name
-nameGiven c = record { «burst_number» = c .«burst_number» }
+nameGiven c = record { «burst_number» = c .«burst_number»; camera = c .camera }
 
 abbrev pub burstIn : Bytes → Bytes → Plain
 burstIn key f = record {
@@ -195,7 +197,7 @@ Reads = (key f : Bytes) → AllBytes key → AllBytes f → checkAnswer key f .r
 
 -- ---- the same of the front of the buffer that a list leaves
 abbrev pub OnCard : Type 0
-OnCard = (l : CallList) (b : Bytes) → length b ≡ l .bufferLength → Fits (editionFor l) (l .identity .name) → Reached (editionFor l) l
+OnCard = (l : CallList) (b : Bytes) → length b ≡ l .bufferLength → Fits (l .identity .name) → Reached (editionFor l) l
     → GivenBack (editionFor l) (l .key) (take (totalOf (editionFor l) (plainOf (editionFor l) l)) (runBuffer l b)) (plainOf (editionFor l) l)
 
 -- ---- otherwise no picture byte is released

@@ -9,3 +9,4 @@ pub mod InPlace
 pub mod Demand1
 pub mod StripLists
 pub mod Demand3
+pub mod OneKey

@@ -39,11 +39,11 @@ abbrev pub xoredIn : Bytes → ℕ → State
 xoredIn b frame = stateOf (xorWith (replicate stateLength 0) (pad b frame))
 
 -- burst 7 with drop, keep of 3 bytes, drop (01, "Afterwards"), closed in a buffer of 111 bytes; the key, the site mark, the stamp and the picture do not
--- matter here
+-- matter here, and neither does the camera number, which edition 1 does not have
 abbrev pub list7 : CallList
 list7 = record {
   key = replicate 16 0;
-  identity = identified 7 (replicate 16 0);
+  identity = identified 7 5 (replicate 16 0);
   bufferLength = 111;
   calls = dropShot byValue ∷ keepShot (replicate 16 0) (replicate 3 0) ∷ dropShot inPlace ∷ closeBurst ∷ [];
 }
@@ -55,7 +55,7 @@ burst7 = plainOf edition1 list7
 abbrev pub list60 : CallList
 list60 = record {
   key = replicate 16 0;
-  identity = identified 7 (replicate 16 0);
+  identity = identified 7 5 (replicate 16 0);
   bufferLength = 64;
   calls = replicate 61 (dropShot byValue) ++ (closeBurst ∷ dropShot inPlace ∷ []);
 }
@@ -78,7 +78,7 @@ refusals =
     ∷ dropNumber edition1 false 3
     ∷ dropNumber edition1 true 60
     ∷ keepNumber edition1 true 0 0 32 16 0 111
-    ∷ beginNumber edition1 16 16 63
+    ∷ beginNumber edition1 16 16 0 63
     ∷ keepNumber edition1 true 0 0 32 16 1048576 1048684
     ∷ keepNumber edition1 true 0 0 32 16 1048576 1048683
     ∷ keepNumber edition1 true 0 0 32 16 1048577 1048685
@@ -94,7 +94,7 @@ header7 =
     ∷ []
 
 -- the front of burst 7 with zeros for its seals, which the lister does not look at; and with another kept
-abbrev front7 : ℕ → Bytes
+abbrev pub front7 : ℕ → Bytes
 front7 kept =
     set (headerOf edition1 burst7) 4 kept ++ (replicate 35 0 ++ (indexOf edition1 burst7 ++ replicate 32 0))
 
@@ -151,7 +151,7 @@ endOrder = endNumber true 3 15 ∷ endNumber false 3 15 ∷ []
 
 -- 1 and 3, 3 and 11
 abbrev pub beginOrder : List ℕ
-beginOrder = beginNumber edition1 15 15 64 ∷ beginNumber edition1 16 15 63 ∷ []
+beginOrder = beginNumber edition1 15 15 0 64 ∷ beginNumber edition1 16 15 0 63 ∷ []
 
 -- 8 and 3, 3 and 9, 9 and 10, 10 and 11
 abbrev pub keepOrder : List ℕ
@@ -185,11 +185,11 @@ pub record Row : Type 0 where
 
 infix 20 _is_
 -- a definition's value, and the value that the document marks
-abbrev _is_ : Grid → Grid → Row
+abbrev pub _is_ : Grid → Grid → Row
 a is b = record { given = a; said = b }
 
 -- a number as a grid of one entry, so that the table has one type
-abbrev the : ℕ → Grid
+abbrev pub the : ℕ → Grid
 the n = (n ∷ []) ∷ []
 
 abbrev pub marked : List Row

@@ -1,4 +1,4 @@
-// The lister (01, "Afterwards"): prints the front of the file on standard input. It needs no key.
+// The lister (01, "Afterwards"; 02, N1): prints the front of the file on standard input. It needs no key.
 use libc::STDIN_FILENO;
 use libc::STDOUT_FILENO;
 use listing::MAX_LISTED;

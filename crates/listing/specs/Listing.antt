@@ -1,4 +1,4 @@
--- What the lister prints for a file, without a key (01, "Afterwards": "The lister"): the front only is tested.
+-- What the lister prints for a file, without a key (01, "Afterwards": "The lister"; 02, N1): the front only is tested.
 -- Assumes nothing.
 use mathlib.Core.Bool.{cond}
 use mathlib.Core.List.{List, [], _∷_, _++_}

@@ -1,4 +1,4 @@
-// The text that the lister prints for a file (01, "Afterwards"): no key, front rules only.
+// The text that the lister prints for a file (01, "Afterwards"; 02, N1): no key, front rules only.
 use burst::ENTRY_LENGTH;
 use burst::MAX_ENTRIES;
 use burst::Place;

@@ -11,6 +11,7 @@ use lib.ListN.{length}
 use Rattle.bytes_le.specs.Bytes.{Bytes, putBytes}
 use Rattle.icepole.proofs.Numbers.{passed}
 use Rattle.burst.specs.declared.Entry.{Entry}
+use Rattle.burst.specs.declared.Name.{Name}
 use Rattle.reader.specs.declared.Checked.{Checked}
 use Rattle.reader.specs.declared.Fetched.{Fetched}
 use Rattle.reader.specs.declared.Header.{Header}
@@ -18,7 +19,7 @@ use Rattle.reader.specs.declared.Located.{Located}
 use Rattle.reader.specs.declared.Verdict.{Verdict}
 use Rattle.reader.specs.declared.Verdict.the-variants.{Agree, Differs}
 use Rattle.reader.specs.Verdicts.{verdictNumber, verdictMark}
-use Rattle.reader.specs.Front.{headerIn, keptIn, indexOffsetIn, entryAt, positionOf, frontRules}
+use Rattle.reader.specs.Front.{headerIn, nameIn, keptIn, indexOffsetIn, entryAt, positionOf, frontRules}
 use Rattle.reader.specs.Reader.{closingPart, recordPart, recordParts, agrees, markIn, bodyIn, sealedIn, verdictOn, verdict, notChecked, notFetched, fetchedAs, checkRefusal}
 use Rattle.reader.specs.Reader.{checkMark, checkAnswer, recordRefusal, locateAnswer, recordOffset, recordBytesIn, fetchRefusal, fetchAnswer, fetchOutput}
 use Rattle.burst.specs.Parts.{keyLength}
@@ -26,9 +27,9 @@ use Rattle.reader.proofs.Rules.{Front, front, InRange, in-range-at}
 use Rattle.reader.proofs.Parts.{agree, first-agrees, all-agree}
 
 -- ---- check
--- what an accepted check answers: of the header h, with the site mark
-abbrev checkedAs : Header → Bytes → Checked
-checkedAs h site = record {
+-- what an accepted check answers: of the header h, with the site mark and the camera number
+abbrev checkedAs : Header → Bytes → ℕ → Checked
+checkedAs h site camera = record {
   refusal = 0;
   mark = 0;
   «burst_number» = h .«burst_number»;
@@ -36,6 +37,7 @@ checkedAs h site = record {
   taken = h .taken;
   kept = h .kept;
   dropped = h .dropped;
+  camera = camera;
 }
 
 module _ (key f : Bytes) where
@@ -84,9 +86,13 @@ module _ (key f : Bytes) where
           unfolding checkRefusal
           check-zero = simp (eq-eqb (length key) keyLength hk, hf, all-records, hr)
 
-          pub check-0 : (h : Header) → h ≡ headerIn f → (site : Bytes) → site ≡ markIn key f (closingPart f) → checkedAs h site ≡ checkAnswer key f
+          pub check-0 : (h : Header) → h ≡ headerIn f → (site : Bytes) → site ≡ markIn key f (closingPart f) → (name : Name) → name ≡ nameIn f
+              → checkedAs h site (name .camera) ≡ checkAnswer key f
           unfolding checkAnswer checkMark
-          check-0 h e site s = ap₂ checkedAs e s ∙ sym (simp check-zero)
+          check-0 h e site s name n =
+              ap₂ (λ (h : Header) (site : Bytes). checkedAs h site (name .camera)) e s
+              ∙ ap (λ (name : Name). checkedAs (headerIn f) (markIn key f (closingPart f)) (name .camera)) n
+              ∙ sym (simp check-zero)
 
 -- what check answers, field by field
 module _ (key f : Bytes) (c : Checked) (is : c ≡ checkAnswer key f) where

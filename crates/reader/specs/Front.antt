@@ -1,6 +1,6 @@
--- The front of a file (01, "The burst file"): what header and index say, and the front rules. No key is needed.
+-- The front of a file (01, "The burst file"; 02, N1): what header and index say, and the front rules. No key is needed.
 -- Assumes nothing.
-use mathlib.Core.Bool.{Bool, true, _&&_}
+use mathlib.Core.Bool.{Bool, true, not, _&&_}
 use mathlib.Core.List.{List, [], _∷_}
 use Prim.Native.Nat.{ℕ, zero, suc, _+_, _*_}
 use lib.Dec.{eqb, leb}
@@ -11,8 +11,8 @@ use Rattle.reader.specs.declared.Header.{Header}
 use Rattle.burst.specs.declared.Edition.{Edition}
 use Rattle.burst.specs.declared.Name.{Name}
 use Rattle.burst.specs.Fields.{countWidth, offsetWidth, burstNumberWidth, editionAt, takenAt, keptAt, droppedAt, burstNumberAt, pictureOffsetAt}
-use Rattle.burst.specs.Fields.{indexOffsetAt, closingOffsetAt, totalAt, fieldsLength, zerosAt, recordOffsetAt, pictureLengthAt, entryLength}
-use Rattle.burst.specs.Editions.{numbered}
+use Rattle.burst.specs.Fields.{indexOffsetAt, closingOffsetAt, totalAt, cameraAt, zerosAt, recordOffsetAt, pictureLengthAt, entryLength}
+use Rattle.burst.specs.Editions.{numbered, noCamera}
 use Rattle.burst.specs.Parts.{sealLength}
 use Rattle.burst.specs.Layout.{closingOffset}
 use Rattle.burst.specs.Numbers.{totalFrom}
@@ -50,11 +50,18 @@ totalIn f = leAt offsetWidth f totalAt
 abbrev pub editionIn : Bytes → Edition
 editionIn f = numbered (editionNumberIn f)
 
+-- the camera number, in a file of edition e: of no bytes, and so 0, where the edition has none
+abbrev pub cameraOf : Edition → Bytes → ℕ
+cameraOf e f = leAt (e .camera) f cameraAt
+
+abbrev pub cameraIn : Bytes → ℕ
+cameraIn f = cameraOf (editionIn f) f
+
 -- the name of the file's burst
 abbrev pub nameIn : Bytes → Name
-nameIn f = record { «burst_number» = burstNumberIn f }
+nameIn f = record { «burst_number» = burstNumberIn f; camera = cameraIn f }
 
--- the header's numbers, as the code reads them
+-- the numbers of the header's nine fields, as the code reads them
 abbrev pub headerIn : Bytes → Header
 headerIn f = record {
   edition = editionNumberIn f;
@@ -92,9 +99,13 @@ abbrev pub allZero : Bytes → Bool
 allZero [] = true
 allZero (x ∷ xs) = eqb x 0 && allZero xs
 
--- the header's bytes behind its nine fields are zero
+-- the header's bytes that are to be zero: those behind the camera number, or where there is none behind the nine fields
+abbrev pub zerosOf : Edition → Bytes → Bytes
+zerosOf e f = drop (cameraAt + e .camera) (take (e .header) f)
+
+-- the rules of the header's bytes behind its nine fields: a camera number is not 0, and its zeros are zero
 unfoldable pub restRules : Edition → Bytes → Bool
-restRules e f = allZero (drop fieldsLength (take (e .header) f))
+restRules e f = not (noCamera e (cameraOf e f)) && allZero (zerosOf e f)
 
 -- the rules of a row, its least length first
 unfoldable pub frontRulesOf : Edition → Bytes → Bool

@@ -1,4 +1,4 @@
--- The reader's calls (01, "Reader"): what check, fetch and record answer and leave, for good and bad calls.
+-- The reader's calls (01, "Reader"; 02, N1): what check, fetch and record answer and leave, for good and bad calls.
 -- Assumes nothing.
 use mathlib.Core.Bool.{Bool, cond, not}
 use mathlib.Core.List.{List, [], _∷_, _++_}
@@ -18,7 +18,7 @@ use Rattle.reader.specs.declared.Located.{Located}
 use Rattle.reader.specs.declared.Verdict.{Verdict}
 use Rattle.reader.specs.declared.Verdict.the-variants.{Agree, Differs}
 use Rattle.reader.specs.Verdicts.{verdictNumber, verdictMark}
-use Rattle.reader.specs.Front.{editionIn, nameIn, takenIn, keptIn, droppedIn, burstNumberIn, indexOffsetIn, entryAt, positionOf, frontRules}
+use Rattle.reader.specs.Front.{editionIn, nameIn, takenIn, keptIn, droppedIn, burstNumberIn, cameraIn, indexOffsetIn, entryAt, positionOf, frontRules}
 
 -- ---- the sealed parts of a file
 -- the shot number, 0 for the closing seal; the associated data; where the part stands; and the length of its body
@@ -87,6 +87,7 @@ notChecked num mark = record {
   taken = record { 0 = 0 };
   kept = record { 0 = 0 };
   dropped = 0;
+  camera = 0;
 }
 
 abbrev pub notFetched : ℕ → ℕ → Fetched
@@ -120,6 +121,7 @@ module _ (key f : Bytes) where
     taken = record { 0 = given checkRefusal (takenIn f) };
     kept = record { 0 = given checkRefusal (keptIn f) };
     dropped = given checkRefusal (droppedIn f);
+    camera = given checkRefusal (cameraIn f);
   }
 
 -- ---- record and fetch, by place

@@ -1,6 +1,7 @@
-// The reader of bursts (01, "Reader"): check, fetch by place, and the sealed record of a place.
+// The reader of bursts (01, "Reader"; 02, N1): check, fetch by place, and the sealed record of a place.
 use burst::BURST_NUMBER_AT;
 use burst::BURST_NUMBER_WIDTH;
+use burst::CAMERA_AT;
 use burst::CLOSING_OFFSET_AT;
 use burst::COUNT_WIDTH;
 use burst::DROPPED_AT;
@@ -41,7 +42,7 @@ ghost use Rattle.burst.specs.Editions.{maxEntries, maxHeader, Known};
 ghost use Rattle.burst.specs.Parts.{sealLength, keyLength};
 ghost use Rattle.burst.specs.Layout.{maxPicture};
 ghost use Rattle.burst.specs.Index.{indexRules};
-ghost use Rattle.reader.specs.Front.{headerIn, keptIn, indexOffsetIn, entryAt, entriesAt, editionIn, nameIn, restRules, frontRules};
+ghost use Rattle.reader.specs.Front.{headerIn, keptIn, indexOffsetIn, entryAt, entriesAt, editionIn, cameraOf, nameIn, allZero, zerosOf, restRules, frontRules};
 ghost use Rattle.reader.specs.Reader.{closingPart, recordPart, recordParts, agrees, answerIn, markIn, bodyIn, verdictOn, notChecked, notFetched, fetchedAs};
 ghost use Rattle.reader.specs.Reader.{checkMark, checkAnswer, locateAnswer, recordRefusal, recordOffset, recordBytesIn, fetchAnswer, fetchOutput};
 ghost use Rattle.reader.specs.Verdicts.{verdictNumber, verdictMark};
@@ -55,6 +56,8 @@ pub struct Checked {
     pub taken: Shot,
     pub kept: Place,
     pub dropped: u16,
+    // 0 in a file of edition 1
+    pub camera: u32,
 }
 
 // Where the entry of a place stands in the file.
@@ -124,7 +127,7 @@ fn index_ok(f: &[u8], e: Edition, kept: Place, start: u32, taken: Shot) -> bool
     burst::entries_ok(entries, kept, e.header, taken, start)
 }
 
-// The header's numbers.
+// The numbers of the header's nine fields.
 pub struct Header {
     pub edition: u16,
     pub taken: Shot,
@@ -172,24 +175,36 @@ fn edition_in(f: &[u8]) -> Edition
     burst::edition_numbered(h.edition)
 }
 
+// The camera number in a file of an edition, 0 where it has none.
+fn camera_in(e: Edition, f: &[u8]) -> u32
+    requires { ⌜ Known e × (e .header ≤ length (now f)) ⌝ }
+    ensures { λ n. ⌜ n ≡ cameraOf e (now (f .entry)) ⌝ }
+{
+    let camera = bytes_le::load_le(f, CAMERA_AT, e.camera as usize);
+    camera as u32
+}
+
 // The name of a file's burst.
 fn name_in(f: &[u8]) -> Name
     requires { ⌜ editionIn (now f) .header ≤ length (now f) ⌝ }
     ensures { λ n. ⌜ n ≡ nameIn (now (f .entry)) ⌝ }
 {
     let h = header_in(f);
+    let e = burst::edition_numbered(h.edition);
+    let camera = camera_in(e, f);
     Name {
         burst_number: h.burst_number,
+        camera,
     }
 }
 
-// Whether the header's bytes behind its nine fields are zero.
-fn rest_ok(e: Edition, f: &[u8]) -> bool
-    requires { ⌜ e .header ≤ length (now f) ⌝ }
-    ensures { λ b. ⌜ b ≡ restRules e (now (f .entry)) ⌝ }
+// Whether the header's bytes behind the camera number, or where there is none behind the nine fields, are zero.
+fn zeros_ok(e: Edition, f: &[u8]) -> bool
+    requires { ⌜ Known e × (e .header ≤ length (now f)) ⌝ }
+    ensures { λ b. ⌜ b ≡ allZero (zerosOf e (now (f .entry))) ⌝ }
 {
     let header = e.header as usize;
-    let mut i = FIELDS_LENGTH;
+    let mut i = CAMERA_AT + e.camera as usize;
     while i < header {
         if f[i] != 0 {
             return false;
@@ -197,6 +212,18 @@ fn rest_ok(e: Edition, f: &[u8]) -> bool
         i += 1;
     }
     true
+}
+
+// The rules of the header's bytes behind its nine fields.
+fn rest_ok(e: Edition, f: &[u8]) -> bool
+    requires { ⌜ Known e × (e .header ≤ length (now f)) ⌝ }
+    ensures { λ b. ⌜ b ≡ restRules e (now (f .entry)) ⌝ }
+{
+    let camera = camera_in(e, f);
+    if burst::no_camera(e, camera) {
+        return false;
+    }
+    zeros_ok(e, f)
 }
 
 // The front rules. Sums are of wider numbers, so none wraps.
@@ -322,6 +349,7 @@ fn not_checked(refusal: u32, mark: u32) -> Checked
         taken: Shot(0),
         kept: Place(0),
         dropped: 0,
+        camera: 0,
     }
 }
 
@@ -368,6 +396,7 @@ pub fn check(key: &[u8], f: &[u8]) -> Checked
         taken,
         kept,
         dropped: h.dropped,
+        camera: name.camera,
     }
 }
 

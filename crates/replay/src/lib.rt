@@ -168,13 +168,14 @@ fn run(
 pub fn replay(
     key: &[u8],
     burst_number: u64,
+    camera: u32,
     site_mark: &[u8],
     script: &[u8],
     buffer: &mut [u8],
     answers: &mut [u8],
 ) -> Performed
     ensures { λ p. ⌜ Replayed
-        (listOf (now (key .entry)) (identified «burst_number» (now («site_mark» .entry))) (length (now (buffer .entry))) (length (now (answers .entry))) (now (script .entry)))
+        (listOf (now (key .entry)) (identified «burst_number» camera (now («site_mark» .entry))) (length (now (buffer .entry))) (length (now (answers .entry))) (now (script .entry)))
         (now (answers .entry)) (now (answers .exit)) (now (buffer .entry)) (now (buffer .exit)) (p .count) ×
         (p .whole ≡ wholeScript (length (now (answers .entry))) (now (script .entry))) ⌝ }
 {
@@ -185,7 +186,7 @@ pub fn replay(
         };
     }
     let room = answers.len() / ANSWER_LENGTH - 1;
-    let b = burst::begin(key, burst_number, site_mark, buffer);
+    let b = burst::begin(key, burst_number, camera, site_mark, buffer);
     let next = bytes_le::store_le(answers, 0, NUMBER_WIDTH, b.refusal as u64);
     bytes_le::store_le(answers, next, NUMBER_WIDTH, 0);
     let r = b.recorder;

@@ -18,7 +18,7 @@ use Rattle.burst.specs.declared.Recorder.{Recorder}
 use Rattle.burst.specs.declared.Edition.{Edition}
 use Rattle.burst.specs.Editions.{written, maxEntries, Known}
 use Rattle.burst.specs.Parts.{markLength}
-use Rattle.burst.specs.Layout.{Identity, recordBytes, closingSeal}
+use Rattle.burst.specs.Layout.{Identity, identityHeld, recordBytes, closingSeal}
 use Rattle.burst.specs.Numbers.{totalFrom, beginNumber}
 use Rattle.burst.specs.Index.{entryOf, indexRules, indexBytes}
 use Rattle.trace.specs.Plain.{Firing, kept, gap, pictures, gaps, usedBy, records, Plain, newBurst, noBurst, totalOf, headerOf}
@@ -26,7 +26,7 @@ use Rattle.trace.specs.Plain.{indexOf, fileOf, Way, Call, keepShot, drop
 use Rattle.trace.specs.Plain.{valueOf, afterCall, answerOf, afterCalls, answersOf, begun, plainOf, plainAnswers, beginNumberOf}
 use Rattle.burst.specs.Recorder.{editionOf, nameOf, identityOf, isSound, newRecorder, noRecorder, beginRefusal, beginAnswer, beginBuffer, afterDrop, dropRefusal, dropAnswer, afterKeep}
 use Rattle.burst.specs.Recorder.{keepRefusal, keepAnswer, keepBuffer, recorderHeader, recorderIndex, recorderSeal, afterClose, closeRefusal, closeAnswer, closeBuffer}
-use Rattle.burst.proofs.Rows.{written-known}
+use Rattle.burst.proofs.Rows.{written-known, held-written}
 use Rattle.burst.proofs.Rules.{clash, sound-is}
 use Rattle.burst.proofs.Numbers.{keeps, drops, closes, keep-8, drop-8, close-8, begins}
 use Rattle.burst.proofs.Puts.{length-header}
@@ -394,14 +394,14 @@ module _ (ed : Edition) (known : Known ed) where
   same n p r b (c ∷ cs) (inr o) = off-same n p r b (c ∷ cs) (o .0) (o .1)
 
 -- ---- the whole list
-module _ (k : Bytes) (i : Identity) (b : Bytes) (h : beginNumber (written (length k)) (length k) (length (i .siteMark)) (length b) ≡ 0) where
+module _ (k : Bytes) (i : Identity) (b : Bytes) (h : beginNumber (written (length k)) (length k) (length (i .siteMark)) (i .name .camera) (length b) ≡ 0) where
   abbrev own : Edition
   own = written (length k)
 
-  begun-live : Live own (written-known _) (length b) (newBurst k i) (newRecorder k i (own .header) false) (putBytes b 0 (replicate (own .header) 0))
+  begun-live : Live own (written-known _) (length b) (newBurst k (identityHeld own i)) (newRecorder k i (own .header) false) (putBytes b 0 (replicate (own .header) 0))
   unfolding newRecorder
   begun-live =
-      let w = begins _ _ _ _ h in
+      let w = begins _ _ _ _ _ h in
       let g = w .room in
       let z : length {A = ℕ} (replicate (own .header) 0) ≡ own .header = length-replicate (own .header) 0 in
       record {
@@ -409,7 +409,7 @@ module _ (k : Bytes) (i : Identity) (b : Bytes) (h : beginNumber (written (lengt
         open-r = refl;
         row = refl;
         key = refl;
-        identity = refl;
+        identity = sym (held-written (length k) i);
         taken = refl;
         kept = refl;
         used = refl;
@@ -429,14 +429,14 @@ module _ (l : CallList) (b : Bytes) (hb : length b ≡ l .bufferLength) where
 
   number-same : beginRefusal (l .key) (l .identity) b ≡ beginNumberOf row l
   unfolding beginRefusal
-  number-same = ap (beginNumber row (length (l .key)) (length (l .identity .siteMark))) hb
+  number-same = ap (beginNumber row (length (l .key)) (length (l .identity .siteMark)) (l .identity .name .camera)) hb
 
   no-recorder : isSound (editionOf noRecorder) noRecorder ≡ false
   unfolding noRecorder newRecorder isSound
   no-recorder = refl
 
   abbrev plainFrom : Bool → Plain
-  plainFrom z = cond z (newBurst (l .key) (l .identity)) noBurst
+  plainFrom z = cond z (newBurst (l .key) (identityHeld row (l .identity))) noBurst
 
   abbrev recorderFrom : Bool → Recorder
   recorderFrom z = cond z (newRecorder (l .key) (l .identity) (row .header) false) noRecorder

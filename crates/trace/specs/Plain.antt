@@ -1,4 +1,4 @@
--- The plain burst (01, "Recorder"): worked out from the calls' arguments and the buffer's length alone, never from the recorder.
+-- The plain burst (01, "Recorder"; 02, N1): worked out from the calls' arguments and the buffer's length alone, never from the recorder.
 -- Assumes nothing.
 use mathlib.Core.Bool.{Bool, true, false, not}
 use mathlib.Core.List.{List, [], _∷_, _++_}
@@ -8,7 +8,7 @@ use Rattle.bytes_le.specs.Bytes.{Bytes}
 use Rattle.icepole.specs.Answers.{unless, given}
 use Rattle.burst.specs.declared.Edition.{Edition}
 use Rattle.burst.specs.declared.Name.{Name}
-use Rattle.burst.specs.Layout.{Identity, identified, entryBytes, headerBytes, recordBytes, closingSeal}
+use Rattle.burst.specs.Layout.{Identity, identified, identityHeld, entryBytes, headerBytes, recordBytes, closingSeal}
 use Rattle.burst.specs.Numbers.{usedAfter, totalFrom, beginNumber, keepNumber, dropNumber, closeNumber}
 
 -- ---- a firing of the shutter: a picture with its stamp, or a gap where it was dropped. (01 says "a list of shots"; `Shot` is the number of one)
@@ -58,7 +58,7 @@ newBurst key i = record { key = key; identity = i; shots = []; closed = false }
 
 -- at first it is closed
 abbrev pub noBurst : Plain
-noBurst = record { key = []; identity = identified 0 []; shots = []; closed = true }
+noBurst = record { key = []; identity = identified 0 0 []; shots = []; closed = true }
 
 module _ (e : Edition) where
   abbrev pub usedOf : Plain → ℕ
@@ -145,11 +145,11 @@ module _ (e : Edition) (bufferLength : ℕ) where
 
 module _ (e : Edition) (l : CallList) where
   abbrev pub beginNumberOf : ℕ
-  beginNumberOf = beginNumber e (length (l .key)) (length (l .identity .siteMark)) (l .bufferLength)
+  beginNumberOf = beginNumber e (length (l .key)) (length (l .identity .siteMark)) (l .identity .name .camera) (l .bufferLength)
 
-  -- a begin turned down leaves the burst closed
+  -- a begin turned down leaves the burst closed. In an edition without camera numbers the burst holds 0, whatever begin is given
   unfoldable pub begun : Plain
-  begun = unless beginNumberOf noBurst (newBurst (l .key) (l .identity))
+  begun = unless beginNumberOf noBurst (newBurst (l .key) (identityHeld e (l .identity)))
 
   -- the plain burst of a list
   unfoldable pub plainOf : Plain

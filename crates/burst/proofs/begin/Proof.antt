@@ -15,15 +15,16 @@ use Rattle.burst.proofs.begin.Statement.{statement}
 use Rattle.burst.proofs.begin.Tie as tie
 
 abbrev identity : tie.Start → Identity
-identity s = identified (s .args .burst-number) (s .args .site-mark .now)
+identity s = identified (s .args .burst-number) (s .args .camera) (s .args .site-mark .now)
 
 -- what is known once no number stands against the call
 abbrev start : tie.Else1 → tie.Start
 start c = c .before .before .before .before .before .before
 
 good : (c : tie.Else1)
-    → Begins (c .before .before .edition-written .result) (length (start c .args .key .now)) (length (start c .args .site-mark .now)) (length (start c .args .buffer .now))
-good c = begins _ _ _ _ (sym (c .before .begin-number .ensures) ∙ c .if1 .left)
+    → Begins (c .before .before .edition-written .result) (length (start c .args .key .now)) (length (start c .args .site-mark .now)) (start c .args .camera)
+    (length (start c .args .buffer .now))
+good c = begins _ _ _ _ _ (sym (c .before .begin-number .ensures) ∙ c .if1 .left)
 
 returns : tie.Need-returns
 unfolding noRecorder
@@ -66,7 +67,7 @@ returns-2 c =
     let e = c₁₁ .edition-written .result in
     begin-done (a .key .now) (identity c₁₅) (a .buffer .now) e (c₁₁ .edition-written .ensures .0) (sym (c₁₀ .begin-number .ensures) ∙ c₉ .if1 .left)
     _ (c .new-recorder2 .ensures
-    ∙ ap₂ (λ (k m : Bytes). newRecorder k (identified (a .burst-number) m) (e .header) false) (c .before .before .array-of .ensures)
+    ∙ ap₂ (λ (k m : Bytes). newRecorder k (identified (a .burst-number) (a .camera) m) (e .header) false) (c .before .before .array-of .ensures)
     (c .before .array-of2 .ensures))
     _ (c₅ .put-bytes .ensures .1 ∙ ap (putBytes (a .buffer .now) 0) (header-zeros e (c₁₁ .edition-written .ensures .1)))
 

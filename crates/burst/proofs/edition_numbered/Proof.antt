@@ -18,7 +18,7 @@ abbrev μ-loop : tie.MeasureT-loop
 μ-loop number rows i₀ i = length editions - i
 
 abbrev zeros : Edition
-zeros = record { number = 0; header = 0; shots = 0 }
+zeros = record { number = 0; header = 0; shots = 0; camera = 0 }
 
 returns : tie.Need-returns Inv-loop μ-loop
 returns c =

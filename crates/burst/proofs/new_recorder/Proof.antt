@@ -23,6 +23,7 @@ returns c =
       used = a .used;
       entries = replicate maxEntries x;
       closed = a .closed;
+      camera = a .name .camera;
     } in r) (c .no-entry .ensures)
 
 pub new-recorder-spec : {M : Type 1} → statement M

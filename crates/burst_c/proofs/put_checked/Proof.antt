@@ -35,6 +35,9 @@ three c = let f = two (c .before .before .before .before .before) in (omega (ari
 four : (c : tie.After-store-le3) → At 28 (c .store-le3 .result) (c .store-le3 .last .0)
 four c = let f = three (c .before .before .before .before .before) in (omega (arith, f, c .store-le3 .ensures .0), omega (arith, f, c .store-le3 .kept .0))
 
+five : (c : tie.After-store-le4) → At 30 (c .store-le4 .result) (c .store-le4 .last .0)
+five c = let f = four (c .before .before .before .before .before) in (omega (arith, f, c .store-le4 .ensures .0), omega (arith, f, c .store-le4 .kept .0))
+
 slice-aggregate-put-bytes : tie.Need-slice-aggregate-put-bytes
 slice-aggregate-put-bytes c = sym (marked (c .before .before .before .before .before .before .before .before))
 
@@ -53,17 +56,32 @@ store-le-requires-3 c κs = let f = three (c .before .before .before .before) in
 store-le-requires-4 : tie.Need-store-le-requires-4
 store-le-requires-4 c κs = let f = four (c .before .before .before .before) in omega (arith, f)
 
+store-le-requires-5 : tie.Need-store-le-requires-5
+store-le-requires-5 c κs = let f = five (c .before .before .before .before) in omega (arith, f)
+
+same-length : tie.Need-same-length
+same-length c =
+    let c₂ = c .before .before in
+    let c₇ = c₂ .before .before .before .before .before in
+    let c₁₂ = c₇ .before .before .before .before .before in
+    let c₁₇ = c₁₂ .before .before .before .before .before in
+    let c₂₂ = c₁₇ .before .before .before .before .before in
+    let c₂₇ = c₂₂ .before .before .before .before .before in
+    omega (arith, c₂ .store-le5 .kept .0, c₇ .store-le4 .kept .0, c₁₂ .store-le3 .kept .0, c₁₇ .store-le2 .kept .0, c₂₂ .put-bytes .kept .0, c₂₇ .store-le .kept .0)
+
 returns : tie.Need-returns
 returns c =
     let c₇ = c .before .before .before .before .before .before .before in
     let c₁₂ = c₇ .before .before .before .before .before in
     let c₁₇ = c₁₂ .before .before .before .before .before in
     let c₂₂ = c₁₇ .before .before .before .before .before in
-    let c₂₆ = c₂₂ .before .before .before .before in
-    let a = c₂₆ .args in
-    check-put (a .info .now) _ _ _ _ _ (a .c .«site_mark») _ _ _ _ (a .c .«burst_number») (a .c .taken .0) (a .c .kept .0) (a .c .dropped) (c₂₆ .pre) (marked c₂₆)
-    (c₂₂ .store-le .ensures .1) (c₂₂ .store-le .ensures .0) (c₁₇ .put-bytes .ensures .1) (c₁₇ .put-bytes .ensures .0) (c₁₂ .store-le2 .ensures .1) (c₁₂ .store-le2 .ensures .0)
-    (c₇ .store-le3 .ensures .1) (c₇ .store-le3 .ensures .0) (c .before .before .store-le4 .ensures .1)
+    let c₂₇ = c₂₂ .before .before .before .before .before in
+    let c₃₁ = c₂₇ .before .before .before .before in
+    let a = c₃₁ .args in
+    check-put (a .info .now) _ _ _ _ _ _ (a .c .«site_mark») _ _ _ _ _ (a .c .«burst_number») (a .c .taken .0) (a .c .kept .0) (a .c .dropped) (a .c .camera) (c₃₁ .pre)
+    (marked c₃₁)
+    (c₂₇ .store-le .ensures .1) (c₂₇ .store-le .ensures .0) (c₂₂ .put-bytes .ensures .1) (c₂₂ .put-bytes .ensures .0) (c₁₇ .store-le2 .ensures .1) (c₁₇ .store-le2 .ensures .0)
+    (c₁₂ .store-le3 .ensures .1) (c₁₂ .store-le3 .ensures .0) (c₇ .store-le4 .ensures .1) (c₇ .store-le4 .ensures .0) (c .before .before .store-le5 .ensures .1)
 
 pub put-checked-spec : {M : Type 1} → statement M
 put-checked-spec =
@@ -79,4 +97,6 @@ put-checked-spec =
     (λ c. search needs)
     store-le-requires-4
     (λ c. search needs)
+    store-le-requires-5
+    same-length
     returns)

@@ -112,7 +112,8 @@ returns-5 c =
     let c₅ = c₄ .before in
     let c₇ = c₅ .before .before in
     let c₉ = c₇ .before .before in
-    let c₁₂ = c₉ .before .before .before in
+    let c₁₀ = c₉ .before in
+    let c₁₂ = c₁₀ .before .before in
     let c₁₃ = c₁₂ .before in
     let c₁₄ = c₁₃ .before in
     let c₁₅ = c₁₄ .before in
@@ -126,6 +127,7 @@ returns-5 c =
     let hc = tag-stands key f (closingPart f) _ (c₉ .verify-closing .ensures) (c₇ .if3 .left) in
     check-0 key f hk hf hc (sym v ∙ agree _ (sym (c₄ .verdict-number .ensures) ∙ c₃ .if4 .left)) _ e _
     (mark-told key f (closingPart f) _ (c₉ .verify-closing .ensures) hc (let l = length-closing-part key f (front f hf) in omega (arith, l)))
+    _ (c₁₀ .name-in .ensures)
 
 pub check-spec : {M : Type 1} → statement M
 check-spec =

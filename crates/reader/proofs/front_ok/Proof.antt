@@ -76,7 +76,8 @@ rest-ok-requires : tie.Need-rest-ok-requires
 rest-ok-requires c κs =
     let c₁₂ = c .before .before .before .before .before .before .before .before .before .before .before .before in
     let c₂₁ = c₁₂ .before .before .before .before .before .before .before .before .before in
-    omega (arith, c₂₁ .if2)
+    let c₂₃ = c₂₁ .before .before in
+    (c₂₃ .edition-in .ensures .1, omega (arith, c₂₁ .if2))
 
 -- all rules but those of the index, once they are tested
 abbrev read₅ : tie.Else5 → tie.After-edition-in

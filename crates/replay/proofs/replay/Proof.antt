@@ -35,7 +35,7 @@ returns-2 c =
     let c₂₈ = c₂₂ .before .before .before .before .before .before in
     let a = c₂₈ .args in
     let a₂ = c₁₁ .store-le2 .last .0 in
-    all-done (a .key .now) (identified (a .burst-number) (a .site-mark .now)) (a .script .now) (a .buffer .now) (a .answers .now)
+    all-done (a .key .now) (identified (a .burst-number) (a .camera) (a .site-mark .now)) (a .script .now) (a .buffer .now) (a .answers .now)
     (omega (arith, c₂₂ .if1))
     (c₂₀ .begin .result) _ _ _ a₂ (take (length a₂ - 8) (drop 8 a₂)) _ (c₁₅ .store-le .result) (length a₂ - 8) (c₅ .run .result)
     (c₂₀ .begin .ensures .0) (c₂₀ .begin .ensures .1) (c₁₅ .store-le .ensures .0) (c₁₅ .store-le .ensures .1) (c₁₁ .store-le2 .ensures .1)
