@@ -10,7 +10,7 @@
 #include "timing.h"
 
 enum { MIB = BURST_MAX_PICTURE_BYTES, SHAPES = 11, CALLS = 4, TURNS = 101 };
-enum { HEADER = 32, ENTRY = 12, OVERHEAD = ICEPOLE128_OVERHEAD_BYTES };          /* of the file */
+enum { HEADER = 40, ENTRY = 12, OVERHEAD = ICEPOLE128_OVERHEAD_BYTES };          /* of the file */
 enum { KEEP_FRONT = 6 + BURST_STAMP_BYTES, CLOSE_BYTES = 1 }; /* of a script (burst.h) */
 
 struct burst {
@@ -41,7 +41,7 @@ static void seal(const struct burst *b)
 
 static void record(const struct burst *b)
 {
-    must(burst_replay(key, 16, 7, mark16, 16, b->script, b->script_len, b->file, b->file_len, answers, sizeof answers, &whole) == b->pictures + 2 && whole);
+    must(burst_replay(key, 16, 7, 1, mark16, 16, b->script, b->script_len, b->file, b->file_len, answers, sizeof answers, &whole) == b->pictures + 2 && whole);
 }
 
 static void check(const struct burst *b) { must(!burst_check(key, 16, b->file, b->file_len, &mark, info, sizeof info)); }

@@ -13,11 +13,11 @@
  *
  * Memory. For n pictures of p bytes in all, and d dropped shots, in bytes:
  *     script    22 n + p + d + 1    a keep is 6 and its stamp 16; drop and close are 1
- *     buffer    44 n + p + 64       the file: a record is its picture and 32, an index entry 12, header and closing seal 64
+ *     buffer    44 n + p + 72       the file: a record is its picture and 32, an index entry 12, header and closing seal 72
  *     answers   8 (n + d + 2)       begin, the keeps and drops, close
  * So each picture is in memory twice until the script is let go, and a script
  * is never longer than its buffer. The longest burst, 60 pictures of 1,048,576
- * bytes, takes 62,915,881 bytes of script and 62,917,264 of buffer.
+ * bytes, takes 62,915,881 bytes of script and 62,917,272 of buffer.
  *
  * On a camera the rooms below are static arrays. Here they are pieces of the
  * heap, so that a memory checker sees an access beside them.
@@ -43,7 +43,8 @@ enum {
     ANSWERS_ROOM = BURST_ANSWER_BYTES * (1 + MOST_CALLS)
 };
 
-static const uint64_t burst_number = 1207; /* never twice under one key */
+static const uint32_t camera = 12;         /* its own among all cameras with this key, set when it is put up */
+static const uint64_t burst_number = 1207; /* never twice for this camera number under this key */
 static const uint8_t key[BURST_KEY_BYTES] = {0x1B, 0x70, 0xC2, 0x49, 0x9E, 0x05, 0xD8, 0x33,
                                              0x66, 0xA1, 0x2F, 0xF4, 0x8D, 0x50, 0xBE, 0x17};
 static const uint8_t site_mark[BURST_SITE_MARK_BYTES] = {'t', 'h', 'e', ' ', 'f', 'o', 'r', 'd',
@@ -101,6 +102,8 @@ static const char *refusal_text(uint32_t number)
         return "not a whole burst file: header, index or length are wrong";
     case BURST_NO_SUCH_PLACE:
         return "there is no such picture";
+    case BURST_NO_CAMERA_NUMBER:
+        return "the camera number is 0: it was not set";
     }
     return "a number that burst.h does not have";
 }
@@ -278,7 +281,7 @@ static size_t record_burst(struct script *s, uint8_t *frame, uint8_t *buffer, ui
         printf("no room for the close\n");
         return 0;
     }
-    count = burst_replay(key, BURST_KEY_BYTES, burst_number, site_mark, BURST_SITE_MARK_BYTES, s->bytes, s->used,
+    count = burst_replay(key, BURST_KEY_BYTES, burst_number, camera, site_mark, BURST_SITE_MARK_BYTES, s->bytes, s->used,
                          buffer, BUFFER_ROOM, answers, ANSWERS_ROOM, &whole);
     return file_length(answers, count, s->calls, whole);
 }
@@ -401,9 +404,9 @@ static int read_burst(const uint8_t *file, size_t file_len, uint8_t *frame)
         return reader_refused("check", number, mark);
     }
     kept = get_u16(info + 26);
-    printf("checked: burst %" PRIu64 ", taken %u, kept %u, dropped %u\n", get_u64(info), (unsigned)get_u16(info + 24),
-           (unsigned)kept, (unsigned)get_u16(info + 28));
-    if (get_u64(info) != burst_number || memcmp(info + 8, site_mark, sizeof site_mark) != 0) {
+    printf("checked: burst %" PRIu64 ", taken %u, kept %u, dropped %u, camera %" PRIu32 "\n", get_u64(info),
+           (unsigned)get_u16(info + 24), (unsigned)kept, (unsigned)get_u16(info + 28), get_u32(info + 30));
+    if (get_u64(info) != burst_number || get_u32(info + 30) != camera || memcmp(info + 8, site_mark, sizeof site_mark) != 0) {
         printf("this is the file of another burst\n");
         return 0;
     }
@@ -434,7 +437,7 @@ static int read_back(const char *name, uint8_t *frame)
 
 static int trigger(const char *name)
 {
-    struct script script = {malloc(SCRIPT_ROOM), SCRIPT_ROOM, 0, 0, MOST_CALLS, BUFFER_ROOM, BURST_MIN_FILE_BYTES};
+    struct script script = {malloc(SCRIPT_ROOM), SCRIPT_ROOM, 0, 0, MOST_CALLS, BUFFER_ROOM, BURST_MIN_WRITTEN_BYTES};
     uint8_t *frame = malloc(FRAME_ROOM);
     uint8_t *buffer = malloc(BUFFER_ROOM);
     uint8_t *answers = malloc(ANSWERS_ROOM);

@@ -3,15 +3,16 @@
  *
  *     playback BURST_FILE
  *
- * The station has the whole file in memory, one of examples/firmware.c. burst_record checks the file and says where a sealed record stands;
- * the station sends it, with the nonce and the index entry that belong to it (docs/FORMAT.md, "What is sealed").
+ * The station has the whole file in memory, one of examples/firmware.c. burst_check says its burst number and camera number, which go into
+ * the nonces. burst_record checks the file too, and says where a sealed record stands; the station sends it, with the nonce and the index
+ * entry that belong to it (docs/FORMAT.md, "What is sealed").
  *
  * The unit has one buffer, as long as the longest record. icepole128_open_in_place opens a record where it lies: the picture then stands at
  * the front of the same buffer. A record that was damaged on its way is refused, nothing of it is shown, and the buffer keeps the bytes
  * that came. So it is here with the second record; the station sends it again.
  *
  * That the tag agrees says that a holder of the key sealed this record under this nonce and entry, and not that it is the one that was
- * asked for: so the unit shows burst number and shot number with the picture. It has checked this record alone; that the whole file was
+ * asked for: so the unit shows camera, burst and shot number with the picture. It has checked this record alone; that the whole file was
  * accepted it has from the station.
  */
 #include <inttypes.h>
@@ -21,7 +22,9 @@
 #include "burst.h"
 #include "icepole.h"
 
-enum { BURST_NUMBER_AT = 8, INDEX_OFFSET_AT = 20, ENTRY_BYTES = 12 }; /* of the file */
+enum { INDEX_OFFSET_AT = 20, ENTRY_BYTES = 12 }; /* of the file */
+enum { INFO_CAMERA_AT = 30 };                    /* of what burst_check says; the burst number stands at its front */
+enum { SHOT_AT = 8, CAMERA_AT = 10 };            /* of a nonce, behind the burst number */
 
 /* The key of examples/firmware.c, which unit and station both have. */
 static const uint8_t key[ICEPOLE128_KEY_BYTES] = {0x1B, 0x70, 0xC2, 0x49, 0x9E, 0x05, 0xD8, 0x33,
@@ -48,6 +51,8 @@ static uint64_t get(const uint8_t *at, int bytes)
 
 /* ---- The base station ---- */
 
+static uint8_t checked[BURST_CHECK_INFO_BYTES]; /* what burst_check says of the file */
+
 /* Puts the record of a place into the unit's memory. Returns burst_record's number: 13 where there is no such place. */
 static uint32_t send(const uint8_t *file, size_t file_len, size_t place)
 {
@@ -61,8 +66,9 @@ static uint32_t send(const uint8_t *file, size_t file_len, size_t place)
     }
     const uint8_t *entry = file + get(file + INDEX_OFFSET_AT, 4) + ENTRY_BYTES * place;
     memset(unit.nonce, 0, sizeof unit.nonce);
-    memcpy(unit.nonce, file + BURST_NUMBER_AT, 8);
-    memcpy(unit.nonce + 8, entry, 2); /* the shot number */
+    memcpy(unit.nonce, checked, 8);
+    memcpy(unit.nonce + SHOT_AT, entry, 2);
+    memcpy(unit.nonce + CAMERA_AT, checked + INFO_CAMERA_AT, 4); /* 0 for a file of edition 1, and so in its nonces */
     memcpy(unit.entry, entry, ENTRY_BYTES);
     memcpy(unit.buffer, file + offset, size);
     unit.length = size;
@@ -85,7 +91,8 @@ static uint32_t play(void)
     for (size_t i = 0; i < length; i++) {
         sum = 31 * sum + unit.buffer[i];
     }
-    printf("burst %" PRIu64 ", shot %" PRIu64 ": %zu bytes, sum %08" PRIX32 ", stamp", get(unit.nonce, 8), get(unit.entry, 2), length, sum);
+    printf("camera %" PRIu64 ", burst %" PRIu64 ", shot %" PRIu64 ": %zu bytes, sum %08" PRIX32 ", stamp", get(unit.nonce + CAMERA_AT, 4),
+           get(unit.nonce, 8), get(unit.entry, 2), length, sum);
     for (int i = 0; i < ICEPOLE128_SECRET_BYTES; i++) {
         printf(" %02X", unit.info[8 + i]);
     }
@@ -107,8 +114,9 @@ int main(int argc, char **argv)
         return 1;
     }
     fclose(card);
-    uint32_t number;
-    for (size_t place = 0; (number = send(file, file_len, place)) == BURST_DONE; place++) {
+    uint32_t mark;
+    uint32_t number = burst_check(key, sizeof key, file, file_len, &mark, checked, sizeof checked);
+    for (size_t place = 0; number == BURST_DONE && (number = send(file, file_len, place)) == BURST_DONE; place++) {
         if (place == 1) {
             unit.buffer[40] ^= 1; /* a bit is changed on its way */
             if (play() != ICEPOLE_TAG_DIFFERS || send(file, file_len, place) != BURST_DONE) {

@@ -21,13 +21,20 @@
  * lent by pointer are written on every call. The mark is 0 except under 7, where it says which tag differs: 0 for the closing seal,
  * else the shot number of the record.
  *
- * Keys. Make one for each camera, once: 16 bytes of the system's random source, by getrandom() or in a shell by
- *     (umask 077 && head -c 16 /dev/urandom >camera.key)
+ * Keys. Make one, once, for a camera or for a whole survey: 16 bytes of the system's random source, by getrandom() or in a shell by
+ *     (umask 077 && head -c 16 /dev/urandom >survey.key)
  * Never work a key out from a serial number, a name, a date or a pass phrase. Keep it out of command lines and shell histories, and out
- * of files that others may read. Whoever has it reads and writes every burst under it.
+ * of files that others may read. Whoever has it reads and writes every burst under it, those of all cameras that share it.
  *
- * Nonces. Under one key, record each burst number once only, whatever became of the first burst: two bursts of one number are sealed
- * with the same nonces. Cameras that each count from 1 must therefore not share a key.
+ * Camera numbers. One key may serve all cameras of a survey if each of them has a camera number of its own, 1 to 4,294,967,295: then
+ * each may count its bursts from 1. A camera that has lost its count, or may have, gets another camera number.
+ *
+ * Nonces. They are made of burst number, camera number and shot number. Under one key, record each pair of camera number and burst number
+ * once only, whatever became of the first burst: two bursts of one pair are sealed with the same nonces.
+ *
+ * Editions. burst_replay writes files of edition 2; the other calls take files of edition 1 too. Those have no camera number, and 0 stands
+ * for it in their nonces. So a burst of edition 2, whose camera number is not 0, never shares a nonce with one of edition 1; but cameras
+ * that still write edition 1 must not share a key with each other.
  */
 #ifndef BURST_H
 #define BURST_H
@@ -51,7 +58,8 @@ enum burst_refusal {
     BURST_PICTURE_LENGTH = 10,  /* a picture has 1 to 1,048,576 bytes */
     BURST_BUFFER_TOO_SHORT = 11,
     BURST_FRONT_BROKEN = 12,    /* header, index or the file's length break a front rule */
-    BURST_NO_SUCH_PLACE = 13    /* the place is not below the count of kept pictures */
+    BURST_NO_SUCH_PLACE = 13,   /* the place is not below the count of kept pictures */
+    BURST_NO_CAMERA_NUMBER = 15 /* the camera number is 0 */
 };
 
 /* The bytes of a script that are calls. */
@@ -67,16 +75,17 @@ enum {
     BURST_STAMP_BYTES = 16,
     BURST_MAX_PICTURE_BYTES = 1048576,
     BURST_MAX_SHOTS = 60,
-    BURST_MIN_FILE_BYTES = 64,
-    BURST_CHECK_INFO_BYTES = 30, /* burst number (8), site mark (16), taken (2), kept (2), dropped (2) */
-    BURST_FETCH_INFO_BYTES = 22, /* shot number (2), picture length (4), stamp (16) */
-    BURST_LIST_BYTES = 4800,     /* room enough for every text of burst_list; many texts need less */
+    BURST_MIN_WRITTEN_BYTES = 72, /* the shortest file that is written, of edition 2; begin needs as much of the buffer */
+    BURST_MIN_READ_BYTES = 64,    /* the shortest file that is read, of edition 1 */
+    BURST_CHECK_INFO_BYTES = 34,  /* burst number (8), site mark (16), taken (2), kept (2), dropped (2), camera number (4) */
+    BURST_FETCH_INFO_BYTES = 22,  /* shot number (2), picture length (4), stamp (16) */
+    BURST_LIST_BYTES = 4800,      /* room enough for every text of burst_list; many texts need less */
     BURST_MAX_LISTED_BYTES = 65536,
-    BURST_ANSWER_BYTES = 8       /* refusal number (4), then shot number or total (4), 0 for begin and where refused */
+    BURST_ANSWER_BYTES = 8        /* refusal number (4), then shot number or total (4), 0 for begin and where refused */
 };
 
-/* Performs a begin and then the calls of a script on a buffer, and writes one answer for each, begin's first. Returns the count of
- * answers written. A script is a run of calls:
+/* Performs a begin, with key, burst number, camera number and site mark, and then the calls of a script on a buffer, and writes one answer
+ * for each, begin's first. Returns the count of answers written. A script is a run of calls:
  *   BURST_CALL_DROP
  *   BURST_CALL_CLOSE
  *   BURST_CALL_KEEP, stamp length (1), picture length (4), stamp, picture
@@ -84,16 +93,17 @@ enum {
  * at most answers_len / 8 - 1 calls. With answers_len below 8 nothing is done, and the result is 0.
  * *whole is 1 where the whole script was performed, so that nothing of it is left behind the last call, and else 0: look at it, since a
  * close that was not performed leaves no file. Refused calls count as performed, a refused begin too. Where nothing is done, *whole is 0.
- * The numbers in the answers: begin 1, 3, 11; keep 8, 3, 9, 10, 11; drop 8, 9; close 8, 11; the first that holds, in this order. A
+ * The numbers in the answers: begin 1, 3, 15, 11; keep 8, 3, 9, 10, 11; drop 8, 9; close 8, 11; the first that holds, in this order. A
  * refused call leaves the buffer as it was. After a close that is answered 0, the first bytes of the buffer, as many as its total
  * says, are the burst's file. */
-size_t burst_replay(const uint8_t *key, size_t key_len, uint64_t burst_number,
+size_t burst_replay(const uint8_t *key, size_t key_len, uint64_t burst_number, uint32_t camera,
                     const uint8_t *site_mark, size_t site_mark_len,
                     const uint8_t *script, size_t script_len,
                     uint8_t *buffer, size_t buffer_len,
                     uint8_t *answers, size_t answers_len, uint32_t *whole);
 
-/* Checks a whole file: front, closing seal, then the records in order. Refusals 1, 12, 7, then 5 for info. */
+/* Checks a whole file: front, closing seal, then the records in order. In info the camera number is 0 for a file of
+ * edition 1, and for no other. Refusals 1, 12, 7, then 5 for info. */
 uint32_t burst_check(const uint8_t *key, size_t key_len,
                      const uint8_t *file, size_t file_len,
                      uint32_t *mark, uint8_t *info, size_t info_len);

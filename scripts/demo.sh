@@ -67,7 +67,7 @@ cd "$folder" || exit 1
 
 echo
 echo "A key of 16 bytes, which nobody else can read, and three small pictures, in a temporary folder."
-run_line '(umask 077; head -c 16 /dev/urandom >camera.key)'
+run_line '(umask 077; head -c 16 /dev/urandom >survey.key)'
 picture 30 15 0 >fox.ppm
 picture 10 10 12 >badger.ppm
 picture 0 25 5 >marten.ppm
@@ -75,7 +75,7 @@ run ls
 
 echo
 echo "Four shots of one trigger, the second of them dropped, are sealed into one file."
-run burst record --key camera.key --number 7 --site-mark 'north ridge' --out 7.burst \
+run burst record --key survey.key --number 7 --camera 12 --site-mark 'north ridge' --out 7.burst \
     --keep '06:12:00' fox.ppm --drop --keep '06:12:04' badger.ppm --keep '06:12:06' marten.ppm
 
 echo
@@ -85,8 +85,8 @@ run burst explain 7.burst
 
 echo
 echo "With the key, every tag is tested, and the pictures come back."
-run burst check --key camera.key 7.burst
-run burst fetch --key camera.key --all pictures 7.burst
+run burst check --key survey.key 7.burst
+run burst fetch --key survey.key --all pictures 7.burst
 run cmp fox.ppm pictures/shot-001
 run cmp badger.ppm pictures/shot-003
 run cmp marten.ppm pictures/shot-004
@@ -94,9 +94,19 @@ run cmp marten.ppm pictures/shot-004
 
 echo
 echo "One picture alone: place 1 is the second picture that was kept, shot 3."
-run burst fetch --key camera.key --place 1 --out badger-again.ppm 7.burst
+run burst fetch --key survey.key --place 1 --out badger-again.ppm 7.burst
 run cmp badger.ppm badger-again.ppm
-run_line 'burst fetch --key camera.key --place 1 --out - 7.burst | cmp badger.ppm -'
+run_line 'burst fetch --key survey.key --place 1 --out - 7.burst | cmp badger.ppm -'
+
+echo
+echo "Another camera of the survey has the same key and its own camera number. It takes the same shots, as its burst 7: the first record"
+echo "is sealed to other bytes. Camera number 0 is refused with 15."
+run burst record --key survey.key --number 7 --camera 13 --site-mark 'north ridge' --out other.burst \
+    --keep '06:12:00' fox.ppm --drop --keep '06:12:04' badger.ppm --keep '06:12:06' marten.ppm
+run burst check --key survey.key other.burst
+run_line 'for burst in 7 other; do tail -c +41 $burst.burst | head -c 611 >$burst.record; done'
+ends_with 1 cmp 7.record other.record
+ends_with 15 burst record --key survey.key --number 8 --camera 0 --site-mark 'north ridge' --out 8.burst --drop
 
 echo
 echo "Somebody changes one byte of the first picture's record. The file is refused with 7, and no picture is written."
@@ -104,14 +114,14 @@ run cp 7.burst changed.burst
 byte=$(next_byte changed.burst 100)
 run_line "printf '\\$byte' | dd of=changed.burst bs=1 seek=100 conv=notrunc 2>/dev/null"
 ends_with 1 cmp 7.burst changed.burst
-ends_with 7 burst check --key camera.key changed.burst
-ends_with 7 burst fetch --key camera.key --all from-changed changed.burst
+ends_with 7 burst check --key survey.key changed.burst
+ends_with 7 burst fetch --key survey.key --all from-changed changed.burst
 [ ! -e from-changed ] || fail "the refused fetch wrote"
 
 echo
 echo "A copy that was cut is refused with 12."
 run_line 'head -c 500 7.burst >cut.burst'
-ends_with 12 burst check --key camera.key cut.burst
+ends_with 12 burst check --key survey.key cut.burst
 
 echo
 echo "demo: everything went as expected: pictures came back byte by byte, and the changed and the cut file were refused"

@@ -1,5 +1,5 @@
 /* The scope paper's example burst, recorded and read back through the C calls
-   as the camera's firmware makes them: burst 7, drop, keep of 3 bytes, drop.
+   as the firmware of camera 3 makes them: burst 7, drop, keep of 3 bytes, drop.
    Every buffer is its own piece of the heap, exactly as long as it must be,
    so that a memory checker sees a call that reads or writes past it. */
 
@@ -11,14 +11,16 @@
 
 enum { KEY = 16, SITE_MARK = 16, STAMP = 16, PICTURE = 3 };
 enum { SCRIPT = 1 + 6 + STAMP + PICTURE + 1 + 1, CALLS = 4 };
-enum { RECORD_AT = 32, INDEX_AT = 67, CLOSING_AT = 79, TOTAL = 111 };
+enum { BURST_NUMBER = 7, CAMERA = 3 };
+enum { CAMERA_AT = 32, RECORD_AT = 40, INDEX_AT = 75, CLOSING_AT = 87, TOTAL = 119 };
 enum { ANSWERS = BURST_ANSWER_BYTES * (1 + CALLS) };
 
 static const uint8_t header[RECORD_AT] = {
-    0x01, 0x00, 0x03, 0x00, 0x01, 0x00, 0x02, 0x00,
+    0x02, 0x00, 0x03, 0x00, 0x01, 0x00, 0x02, 0x00,
     0x07, 0x00, 0x00, 0x00, 0x00, 0x00, 0x00, 0x00,
-    0x20, 0x00, 0x00, 0x00, 0x43, 0x00, 0x00, 0x00,
-    0x4F, 0x00, 0x00, 0x00, 0x6F, 0x00, 0x00, 0x00,
+    0x28, 0x00, 0x00, 0x00, 0x4B, 0x00, 0x00, 0x00,
+    0x57, 0x00, 0x00, 0x00, 0x77, 0x00, 0x00, 0x00,
+    0x03, 0x00, 0x00, 0x00, 0x00, 0x00, 0x00, 0x00,
 };
 
 static const uint8_t entry[CLOSING_AT - INDEX_AT] = {
@@ -152,14 +154,24 @@ static void write_script(uint8_t *script, const uint8_t *stamp,
     script[at] = BURST_CALL_CLOSE;
 }
 
+/* Begins the burst, performs a script, and counts the answers. */
+static size_t replay(struct lent *l, uint32_t camera, const uint8_t *script,
+                     size_t script_len, uint8_t *buffer, size_t buffer_len,
+                     uint8_t *answers, size_t answers_len)
+{
+    *l->whole = FILL_NUMBER;
+    return burst_replay(l->key, KEY, BURST_NUMBER, camera, l->site_mark, SITE_MARK,
+                        script, script_len, buffer, buffer_len, answers,
+                        answers_len, l->whole);
+}
+
 /* Each step says what went wrong, or NULL. */
 static const char *record(struct lent *l)
 {
     size_t count;
 
     write_script(l->script, l->stamp, l->picture);
-    count = burst_replay(l->key, KEY, 7, l->site_mark, SITE_MARK, l->script,
-                         SCRIPT, l->file, TOTAL, l->answers, ANSWERS, l->whole);
+    count = replay(l, CAMERA, l->script, SCRIPT, l->file, TOTAL, l->answers, ANSWERS);
     if (count != 1 + CALLS || *l->whole != 1) {
         return "not every call has an answer";
     }
@@ -185,13 +197,13 @@ static const char *record_short(struct lent *l)
     uint8_t *buffer = filled(TOTAL - 1);
     uint8_t *answers = filled(ANSWERS);
     const char *wrong = NULL;
-    size_t count = burst_replay(l->key, KEY, 7, l->site_mark, SITE_MARK,
-                                l->script, SCRIPT, buffer, TOTAL - 1, answers,
-                                ANSWERS, l->whole);
+    size_t count = replay(l, CAMERA, l->script, SCRIPT, buffer, TOTAL - 1, answers,
+                          ANSWERS);
     if (count != 1 + CALLS || *l->whole != 1 ||
         memcmp(answers + 2 * BURST_ANSWER_BYTES, answer, sizeof answer) != 0) {
         wrong = "a buffer one byte short was not refused with 11";
-    } else if (!is_filled(buffer + 64, TOTAL - 1 - 64)) {
+    } else if (!is_filled(buffer + BURST_MIN_WRITTEN_BYTES,
+                          TOTAL - 1 - BURST_MIN_WRITTEN_BYTES)) {
         wrong = "bytes after an empty burst were written";
     }
     free(buffer);
@@ -216,9 +228,7 @@ static const char *record_parts(struct lent *l)
         for (size_t i = 0; i < sizeof ends / sizeof ends[0]; i++) {
             all |= length == ends[i];
         }
-        *l->whole = FILL_NUMBER;
-        burst_replay(l->key, KEY, 7, l->site_mark, SITE_MARK, script + 1, length,
-                     buffer, TOTAL, answers, ANSWERS, l->whole);
+        replay(l, CAMERA, script + 1, length, buffer, TOTAL, answers, ANSWERS);
         if (*l->whole != all) {
             wrong = "whole is wrong of a cut script";
         }
@@ -229,10 +239,8 @@ static const char *record_parts(struct lent *l)
     for (size_t room = 0; wrong == NULL && room <= ANSWERS; room++) {
         uint8_t *buffer = filled(TOTAL);
         uint8_t *answers = filled(room + 1);
-        size_t count;
-        *l->whole = FILL_NUMBER;
-        count = burst_replay(l->key, KEY, 7, l->site_mark, SITE_MARK, l->script,
-                             SCRIPT, buffer, TOTAL, answers + 1, room, l->whole);
+        size_t count = replay(l, CAMERA, l->script, SCRIPT, buffer, TOTAL,
+                              answers + 1, room);
         if (count != room / BURST_ANSWER_BYTES ||
             *l->whole != (uint32_t)(room >= ANSWERS)) {
             wrong = "count or whole is wrong where there is little room";
@@ -252,11 +260,57 @@ static const char *record_no_call(struct lent *l)
         const uint8_t script[] = {BURST_CALL_DROP, (uint8_t)byte, BURST_CALL_CLOSE};
         uint8_t *buffer = filled(TOTAL);
         uint8_t *answers = filled(ANSWERS);
-        size_t count = burst_replay(l->key, KEY, 7, l->site_mark, SITE_MARK, script,
-                                    sizeof script, buffer, TOTAL, answers, ANSWERS,
-                                    l->whole);
+        size_t count = replay(l, CAMERA, script, sizeof script, buffer, TOTAL, answers,
+                              ANSWERS);
         if (count != 2 || *l->whole != 0) {
             wrong = "a byte that is no call did not end the script";
+        }
+        free(buffer);
+        free(answers);
+    }
+    return wrong;
+}
+
+/* An empty burst of a camera in a buffer of so many bytes: begin's number, and
+   the bytes from 32 to 39 of a file. */
+static const struct begin {
+    uint32_t camera;
+    size_t room;
+    uint8_t number;
+    uint8_t bytes[RECORD_AT - CAMERA_AT];
+} begins[] = {
+    {0, BURST_MIN_WRITTEN_BYTES, BURST_NO_CAMERA_NUMBER, {0}},
+    {0, BURST_MIN_WRITTEN_BYTES - 1, BURST_NO_CAMERA_NUMBER, {0}},
+    {1, BURST_MIN_WRITTEN_BYTES - 1, BURST_BUFFER_TOO_SHORT, {0}},
+    {1, BURST_MIN_WRITTEN_BYTES, BURST_DONE, {1}},
+    {0x01020304, BURST_MIN_WRITTEN_BYTES, BURST_DONE, {4, 3, 2, 1}},
+    {0xFFFFFFFF, BURST_MIN_WRITTEN_BYTES, BURST_DONE, {255, 255, 255, 255}},
+};
+
+static const char *record_begins(struct lent *l)
+{
+    const uint8_t script[] = {BURST_CALL_CLOSE};
+    const char *wrong = NULL;
+
+    for (size_t i = 0; wrong == NULL && i < sizeof begins / sizeof begins[0]; i++) {
+        const struct begin *b = &begins[i];
+        const int refused = b->number != BURST_DONE;
+        const uint8_t expected[2 * BURST_ANSWER_BYTES] = {
+            b->number, 0, 0, 0, 0, 0, 0, 0,
+            refused ? BURST_NOT_SOUND : BURST_DONE, 0, 0, 0,
+            refused ? 0 : BURST_MIN_WRITTEN_BYTES, 0, 0, 0,
+        };
+        uint8_t *buffer = filled(b->room);
+        uint8_t *answers = filled(sizeof expected);
+        replay(l, b->camera, script, sizeof script, buffer, b->room, answers,
+               sizeof expected);
+        if (memcmp(answers, expected, sizeof expected) != 0) {
+            wrong = "the answers to begin and close differ";
+        } else if (refused && !is_filled(buffer, b->room)) {
+            wrong = "a refused begin wrote";
+        } else if (!refused &&
+                   memcmp(buffer + CAMERA_AT, b->bytes, sizeof b->bytes) != 0) {
+            wrong = "the camera number or the zeros of the header differ";
         }
         free(buffer);
         free(answers);
@@ -273,18 +327,23 @@ static uint32_t fetch(struct lent *l, size_t out_len, size_t info_len)
 
 static const char *read_back(struct lent *l)
 {
-    const uint8_t counts[] = {3, 0, 1, 0, 2, 0};
+    const uint8_t counts_and_camera[] = {3, 0, 1, 0, 2, 0, CAMERA, 0, 0, 0};
     const uint8_t shot_and_length[] = {2, 0, PICTURE, 0, 0, 0};
     /* Their low 16 or 32 bits are those of place 0. */
     const size_t places[] = {65536, (size_t)1 << 32, (size_t)1 << 63};
 
+    if (burst_check(l->key, KEY, l->file, TOTAL, l->mark, l->check_info,
+                    BURST_CHECK_INFO_BYTES - 1) != BURST_OUTPUT_TOO_SHORT ||
+        !is_filled(l->check_info, BURST_CHECK_INFO_BYTES)) {
+        return "an info of check one byte short was not refused with 5";
+    }
     if (burst_check(l->key, KEY, l->file, TOTAL, l->mark, l->check_info,
                     BURST_CHECK_INFO_BYTES) != BURST_DONE) {
         return "check refused";
     }
     if (*l->mark != 0 || memcmp(l->check_info, header + 8, 8) != 0 ||
         memcmp(l->check_info + 8, l->site_mark, SITE_MARK) != 0 ||
-        memcmp(l->check_info + 24, counts, sizeof counts) != 0) {
+        memcmp(l->check_info + 24, counts_and_camera, sizeof counts_and_camera) != 0) {
         return "what check says differs";
     }
 
@@ -367,7 +426,7 @@ static const char *read_changed(struct lent *l)
 static const char *read_list(struct lent *l)
 {
     static const char listing[] =
-        "burst 7\ntaken 3 kept 1 dropped 2\nshot 2 at 32 length 3\n";
+        "burst 7\ntaken 3 kept 1 dropped 2\nshot 2 at 40 length 3\n";
     const size_t length = sizeof listing - 1;
     const char *wrong = NULL;
     uint8_t *text = filled(length);
@@ -385,20 +444,44 @@ static const char *read_list(struct lent *l)
     return wrong;
 }
 
-/* Every cut of the file, each on its own piece of the heap: 12. */
+/* Some bytes as a file, which ends where its piece of the heap does: 12. */
+static int is_front_broken(struct lent *l, const uint8_t *bytes, size_t length)
+{
+    uint8_t *file = allocate(length + 1);
+    uint32_t checked;
+    memcpy(file + 1, bytes, length);
+    *l->mark = FILL_NUMBER;
+    checked = burst_check(l->key, KEY, file + 1, length, l->mark, l->check_info,
+                          BURST_CHECK_INFO_BYTES);
+    free(file);
+    return checked == BURST_FRONT_BROKEN && *l->mark == 0;
+}
+
+/* Every cut of the file. */
 static const char *read_cut(struct lent *l)
 {
     for (size_t length = 0; length < TOTAL; length++) {
-        uint8_t *cut = allocate(length + 1);
-        uint32_t checked;
-        /* The cut file ends where its piece of the heap does. */
-        memcpy(cut + 1, l->file, length);
-        *l->mark = FILL_NUMBER;
-        checked = burst_check(l->key, KEY, cut + 1, length, l->mark,
-                              l->check_info, BURST_CHECK_INFO_BYTES);
-        free(cut);
-        if (checked != BURST_FRONT_BROKEN || *l->mark != 0) {
+        if (!is_front_broken(l, l->file, length)) {
             return "a cut file was not refused with 12";
+        }
+    }
+    return NULL;
+}
+
+/* Files that are long enough for edition 1 and call themselves edition 2: an
+   empty burst whose closing seal stands as far from the end as it must. */
+static const char *read_short(struct lent *l)
+{
+    for (size_t length = BURST_MIN_READ_BYTES; length < BURST_MIN_WRITTEN_BYTES; length++) {
+        const uint8_t closing = (uint8_t)(length - 32);
+        uint8_t file[BURST_MIN_WRITTEN_BYTES] = {0};
+        memcpy(file, header, sizeof header);
+        memset(file + 2, 0, 6);
+        file[20] = closing;
+        file[24] = closing;
+        file[28] = (uint8_t)length;
+        if (!is_front_broken(l, file, length)) {
+            return "a short file of edition 2 was not refused with 12";
         }
     }
     return NULL;
@@ -407,7 +490,8 @@ static const char *read_cut(struct lent *l)
 int main(void)
 {
     static const char *(*const steps[])(struct lent *) = {
-        record, record_short, record_parts, record_no_call, read_back, read_list, read_changed, read_cut,
+        record, record_short, record_parts, record_no_call, record_begins,
+        read_back, read_list, read_changed, read_cut, read_short,
     };
     struct lent l = lend();
     const char *wrong = NULL;

@@ -1,8 +1,8 @@
 //! Files whose fronts need not obey the rules, though their seals are right.
 
-use crate::list::{bytes, KEY, SITE_MARK};
+use crate::list::{bytes, CAMERA, KEY, SITE_MARK};
 use reference::burst::layout::seal_shot;
-use reference::burst::{Entry, Header};
+use reference::burst::{Edition, Entry, Header};
 
 const BURST: u64 = 0x0123_4567_89AB_CDEF;
 
@@ -20,17 +20,19 @@ pub struct Draft {
 }
 
 /// Shots and lengths of kept pictures, laid out by the rules.
-pub fn draft(taken: u16, kept: &[(u16, u32)]) -> Draft {
+pub fn draft(edition: Edition, taken: u16, kept: &[(u16, u32)]) -> Draft {
     let header = Header {
-        edition: 1,
+        edition,
         taken,
         kept: kept.len() as u16,
         dropped: taken.wrapping_sub(kept.len() as u16),
         burst_number: BURST,
-        picture_offset: 32,
+        picture_offset: edition.header_bytes as u32,
         index_offset: 0,
         closing_offset: 0,
         total: 0,
+        camera: if edition.has_camera { CAMERA } else { 0 },
+        zeros: 0,
     };
     let entry = |(shot, length): &(u16, u32)| Entry {
         shot: *shot,
@@ -46,18 +48,18 @@ pub fn draft(taken: u16, kept: &[(u16, u32)]) -> Draft {
         closing_at: 0,
         length: 0,
     };
-    draft.lay_out(32);
+    draft.lay_out(header.picture_offset);
     draft
 }
 
 /// Shot 1 of 5 bytes and shot 3 of 7 bytes, of 3 taken.
-pub fn base() -> Draft {
-    draft(3, &[(1, 5), (3, 7)])
+pub fn base(edition: Edition) -> Draft {
+    draft(edition, 3, &[(1, 5), (3, 7)])
 }
 
 /// The base with a change; the change lays out again where it must.
-pub fn changed(change: impl Fn(&mut Draft)) -> Draft {
-    let mut draft = base();
+pub fn changed(edition: Edition, change: impl Fn(&mut Draft)) -> Draft {
+    let mut draft = base(edition);
     change(&mut draft);
     draft
 }
@@ -105,16 +107,16 @@ impl Draft {
     /// The bytes, every seal worked out from the front as it is.
     pub fn file(&self) -> Vec<u8> {
         let mut file = vec![0; self.length];
-        let burst = self.header.burst_number;
+        let (burst, camera) = (self.header.burst_number, self.header.camera);
         for (entry, (at, length)) in self.entries.iter().zip(&self.records) {
             let picture = bytes(entry.shot as usize, *length);
             let ad: [&[u8]; 2] = [&entry.to_bytes(), &[]];
-            let sealed = seal_shot(&KEY, burst, entry.shot, &[9; 16], ad, &picture);
+            let sealed = seal_shot(&KEY, burst, entry.shot, camera, &[9; 16], ad, &picture);
             put(&mut file, *at, &sealed);
         }
         self.put_front(&mut file);
         let ad: [&[u8]; 2] = [&self.header.to_bytes(), &self.index()];
-        let closing = seal_shot(&KEY, burst, 0, &SITE_MARK, ad, &[]);
+        let closing = seal_shot(&KEY, burst, 0, camera, &SITE_MARK, ad, &[]);
         put(&mut file, self.closing_at, &closing);
         file
     }

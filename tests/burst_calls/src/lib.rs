@@ -21,14 +21,23 @@ use reference::burst::reader::RecordPart;
 pub fn replay(
     key: &[u8],
     burst_number: u64,
+    camera: u32,
     site_mark: &[u8],
     script: &[u8],
     buffer: &mut [u8],
     answers: &mut [u8],
 ) -> (usize, u32) {
     let mut whole = LentNumber::default();
-    let lent = whole.lent();
-    let count = burst::replay(key, burst_number, site_mark, script, buffer, answers, lent);
+    let count = burst::replay(
+        key,
+        burst_number,
+        camera,
+        site_mark,
+        script,
+        buffer,
+        answers,
+        whole.lent(),
+    );
     (count, whole.after())
 }
 

@@ -1,3 +1,5 @@
-//! The worked file of docs/FORMAT.md.
+//! The first worked file of docs/FORMAT.md, in edition 1.
 
-pub use reference::page::worked_file;
+pub fn worked_file() -> Vec<u8> {
+    reference::page::WORKED[0].file()
+}

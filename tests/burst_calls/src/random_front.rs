@@ -4,11 +4,15 @@
 use crate::draft::{draft, Draft};
 use crate::list::KEY;
 use crate::listing::{check_list, LIST_BYTES};
+use crate::random_list::{camera_or_0, one_of};
+use crate::random_read::edition_read;
 use crate::reading::{check_check, check_fetch, check_record, CHECK_INFO, FETCH_INFO};
+use reference::burst::EDITIONS;
 use reference::random::SplitMix64;
 
-/// A few shots, some kept.
+/// A few shots, some kept, in either edition. The camera number is rarely 0.
 fn random_draft(generator: &mut SplitMix64) -> Draft {
+    let edition = one_of(generator, &EDITIONS);
     let taken = generator.below(6) as u16;
     let mut kept = Vec::new();
     for shot in 1..=taken {
@@ -16,13 +20,17 @@ fn random_draft(generator: &mut SplitMix64) -> Draft {
             kept.push((shot, 1 + generator.below(20) as u32));
         }
     }
-    draft(taken, &kept)
+    let mut draft = draft(edition, taken, &kept);
+    if edition.has_camera {
+        draft.header.camera = camera_or_0(generator, 20);
+    }
+    draft
 }
 
 /// A step to another number, near it or to where some bits are cut.
 fn step(generator: &mut SplitMix64) -> u32 {
-    let near = [1, 2, 12, 32, 44, 1 << 8, 1 << 16, 1 << 24, 1 << 31];
-    let step = near[generator.below(near.len())];
+    let near = [1, 2, 8, 12, 32, 44, 1 << 8, 1 << 16, 1 << 24, 1 << 31];
+    let step = one_of(generator, &near);
     match generator.below(2) {
         0 => step,
         _ => 0u32.wrapping_sub(step),
@@ -35,8 +43,9 @@ fn change(generator: &mut SplitMix64, draft: &mut Draft) {
     let add_2 = |field: &mut u16| *field = field.wrapping_add(by as u16);
     let add_4 = |field: &mut u32| *field = field.wrapping_add(by);
     let header = &mut draft.header;
-    match generator.below(12) {
-        0 => add_2(&mut header.edition),
+    let fields = if header.edition.has_camera { 13 } else { 12 };
+    match generator.below(fields) {
+        0 => add_2(&mut header.edition.number),
         1 => add_2(&mut header.taken),
         2 => add_2(&mut header.kept),
         3 => add_2(&mut header.dropped),
@@ -44,6 +53,7 @@ fn change(generator: &mut SplitMix64, draft: &mut Draft) {
         5 => add_4(&mut header.index_offset),
         6 => add_4(&mut header.closing_offset),
         7 => add_4(&mut header.total),
+        12 => add_4(&mut header.zeros),
         field => {
             let count = draft.entries.len();
             if count > 0 {
@@ -69,8 +79,8 @@ pub fn random_front(generator: &mut SplitMix64) -> Draft {
 }
 
 /// Check, fetch, record and list of the file do what the reference does. Gives
-/// their numbers.
-pub fn front_call(generator: &mut SplitMix64, what: &dyn Fn() -> String) -> [u32; 4] {
+/// their numbers, and the edition that was read.
+pub fn front_call(generator: &mut SplitMix64, what: &dyn Fn() -> String) -> [u32; 5] {
     let draft = random_front(generator);
     let file = draft.file();
     let place = generator.below(7);
@@ -80,5 +90,6 @@ pub fn front_call(generator: &mut SplitMix64, what: &dyn Fn() -> String) -> [u32
     let fetched = check_fetch(&KEY, &file, place, lengths, &what);
     let recorded = check_record(&KEY, &file, place, &what);
     let listed = check_list(&file, LIST_BYTES, &what);
-    [checked.0, fetched.0, recorded.0, listed]
+    let edition = edition_read(checked.0, &file);
+    [checked.0, fetched.0, recorded.0, listed, edition]
 }

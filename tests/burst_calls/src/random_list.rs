@@ -1,16 +1,16 @@
 //! Random lists of calls, with refused ones among them, and scripts of any
 //! bytes, for burst_replay.
 
-use crate::list::ROOM;
+use crate::list::{begin, ROOM};
 use crate::listing::{check_list, LIST_BYTES};
 use crate::reading::{check_gives_back, check_reference_gives_back};
 use crate::recording::{Performed, Recording};
 use crate::script::{push_call, CLOSE, DROP, KEEP};
 use reference::burst::plain::run;
-use reference::burst::Call;
+use reference::burst::{Call, EDITION_2};
 use reference::random::SplitMix64;
 
-fn one_of<T: Copy>(generator: &mut SplitMix64, values: &[T]) -> T {
+pub fn one_of<T: Copy>(generator: &mut SplitMix64, values: &[T]) -> T {
     values[generator.below(values.len())]
 }
 
@@ -21,6 +21,20 @@ fn sixteen(generator: &mut SplitMix64, often: usize) -> Vec<u8> {
         _ => 16,
     };
     generator.next_bytes(length)
+}
+
+/// Any camera number but 0, often a small one.
+pub fn random_camera(generator: &mut SplitMix64) -> u32 {
+    let camera = generator.next_word() as u32 >> generator.below(32);
+    camera.max(1)
+}
+
+/// The same, but 0 once in `often` times.
+pub fn camera_or_0(generator: &mut SplitMix64, often: usize) -> u32 {
+    match generator.below(often) {
+        0 => 0,
+        _ => random_camera(generator),
+    }
 }
 
 /// None, small ones, some around a block, some to a few thousand bytes, and
@@ -122,7 +136,7 @@ fn random_buffer(generator: &mut SplitMix64, need: usize) -> Vec<u8> {
         3 => need - 1,
         4 => need - 1 - generator.below(40),
         5 => generator.below(need + 1),
-        6 => one_of(generator, &[0, 31, 32, 63, 64, 65]),
+        6 => one_of(generator, &[0, 39, 40, 64, 71, 72, 73]),
         _ => need + generator.below(300),
     };
     generator.next_bytes(length)
@@ -145,9 +159,10 @@ fn random_answers(generator: &mut SplitMix64, calls: usize) -> Vec<u8> {
 pub fn random_recording(generator: &mut SplitMix64) -> Recording {
     let key = sixteen(generator, 14);
     let burst_number = generator.next_word() >> generator.below(64);
+    let camera = camera_or_0(generator, 14);
     let site_mark = sixteen(generator, 14);
     let calls = random_calls(generator);
-    recording_with(generator, key, burst_number, site_mark, &calls)
+    recording_with(generator, key, burst_number, camera, site_mark, &calls)
 }
 
 /// These calls with a random script, buffer and answers.
@@ -155,19 +170,16 @@ pub fn recording_with(
     generator: &mut SplitMix64,
     key: Vec<u8>,
     burst_number: u64,
+    camera: u32,
     site_mark: Vec<u8>,
     calls: &[Call],
 ) -> Recording {
     let script = random_script(generator, calls);
-    let begin = Call::Begin {
-        key: vec![0; 16],
-        burst_number,
-        site_mark: vec![0; 16],
-    };
-    let need = needed(&[&[begin], calls].concat());
+    let need = needed(&[&[begin(burst_number)], calls].concat());
     Recording {
         key,
         burst_number,
+        camera,
         site_mark,
         script,
         buffer: random_buffer(generator, need),
@@ -179,7 +191,7 @@ pub fn recording_with(
 fn needed(calls: &[Call]) -> usize {
     let calls_without_close = |call: &&Call| !matches!(call, Call::Close);
     let open: Vec<Call> = calls.iter().filter(calls_without_close).cloned().collect();
-    run(&open, ROOM).burst.total()
+    run(EDITION_2, &open, ROOM).burst.total()
 }
 
 /// Bytes that are often calls, and often lengths that fit.
@@ -219,6 +231,7 @@ pub fn recording_of_any_bytes(generator: &mut SplitMix64) -> Recording {
     Recording {
         key: sixteen(generator, 20),
         burst_number: generator.next_word(),
+        camera: camera_or_0(generator, 20),
         site_mark: sixteen(generator, 20),
         script,
         buffer: generator.next_bytes(buffer),

@@ -1,10 +1,12 @@
 //! One random read of a file that may be damaged, by check, fetch, record and
 //! list.
 
-use crate::list::{bytes, file_of, KEY};
+use crate::list::{burst_of, bytes, KEY};
 use crate::listing::{check_list, LIST_BYTES};
+use crate::random_list::{camera_or_0, one_of};
 use crate::reading::{check_check, check_fetch, check_record, CHECK_INFO, FETCH_INFO};
 use reference::burst::lister::list;
+use reference::burst::EDITIONS;
 use reference::random::SplitMix64;
 
 /// The number itself, one less, one more, or anything below 100.
@@ -44,8 +46,9 @@ fn spoil(generator: &mut SplitMix64, file: &mut Vec<u8>, other: &[u8]) {
         3 => {
             // Front fields alone, so that few changes meet many rules.
             for _ in 0..=generator.below(2) {
-                let at = [2, 4, 6, 20, 24, 28][generator.below(6)];
-                file[at] = file[at].wrapping_add([1, 255, 12, 244][generator.below(4)]);
+                let at = one_of(generator, &[0, 2, 4, 6, 16, 20, 24, 28, 32, 36]);
+                let by = one_of(generator, &[1, 255, 8, 248, 12, 244]);
+                file[at] = file[at].wrapping_add(by);
             }
         }
         _ => {}
@@ -83,13 +86,32 @@ fn random_place(generator: &mut SplitMix64) -> usize {
     }
 }
 
+/// The file of these shots, with one of a few burst numbers, in either edition
+/// and by any camera.
+fn random_file(generator: &mut SplitMix64, bursts: usize, lengths: &[usize]) -> Vec<u8> {
+    let edition = one_of(generator, &EDITIONS);
+    let mut burst = burst_of(edition, generator.below(bursts) as u64, lengths);
+    if edition.has_camera && generator.below(2) == 0 {
+        burst.camera = camera_or_0(generator, 20);
+    }
+    burst.file()
+}
+
+/// The edition number of a file that check accepted, or 0.
+pub fn edition_read(checked: u32, file: &[u8]) -> u32 {
+    match checked {
+        0 => file[0].into(),
+        _ => 0,
+    }
+}
+
 /// Check, fetch, record and list of one file do what the reference does. Gives
-/// their numbers.
-pub fn read_call(generator: &mut SplitMix64, what: &dyn Fn() -> String) -> [u32; 4] {
+/// their numbers, and the edition that was read.
+pub fn read_call(generator: &mut SplitMix64, what: &dyn Fn() -> String) -> [u32; 5] {
     let count = generator.below(7);
     let lengths: Vec<usize> = (0..count).map(|_| random_length(generator)).collect();
-    let mut file = file_of(generator.below(3) as u64, &lengths);
-    let other = file_of(generator.below(2) as u64, &lengths);
+    let mut file = random_file(generator, 3, &lengths);
+    let other = random_file(generator, 2, &lengths);
     spoil(generator, &mut file, &other);
 
     let key = random_key(generator);
@@ -110,5 +132,6 @@ pub fn read_call(generator: &mut SplitMix64, what: &dyn Fn() -> String) -> [u32;
         _ => around(generator, list(&file).len()),
     };
     let listed = check_list(&file, room, &what);
-    [checked.0, fetched.0, recorded.0, listed]
+    let edition = edition_read(checked.0, &file);
+    [checked.0, fetched.0, recorded.0, listed, edition]
 }

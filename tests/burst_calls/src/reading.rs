@@ -23,13 +23,14 @@ pub const WIDE_PLACES: [usize; 9] = [
     usize::MAX,
 ];
 
-/// Burst number, site mark, taken, kept, dropped.
+/// Burst number, site mark, taken, kept, dropped, camera number.
 pub fn check_info(checked: &Checked) -> Vec<u8> {
     let mut info = checked.burst_number.to_le_bytes().to_vec();
     info.extend(checked.site_mark);
     for count in [checked.taken, checked.kept, checked.dropped] {
         info.extend(u16::try_from(count).unwrap().to_le_bytes());
     }
+    info.extend(checked.camera.to_le_bytes());
     info
 }
 
@@ -209,6 +210,7 @@ pub fn check_gives_back(burst: &PlainBurst, file: &[u8], what: &dyn Fn() -> Stri
     assert_eq!(given, (0, 0), "{}", what());
     let checked = Checked {
         burst_number: burst.burst_number,
+        camera: burst.camera,
         site_mark: burst.site_mark,
         taken: burst.taken() as u64,
         kept: burst.kept() as u64,
@@ -217,7 +219,7 @@ pub fn check_gives_back(burst: &PlainBurst, file: &[u8], what: &dyn Fn() -> Stri
     info.check_written(&check_info(&checked), &|| format!("info, {}", what()));
 
     let mut shots = vec![None; burst.taken()];
-    let mut offset = 32;
+    let mut offset = burst.edition.header_bytes;
     for (place, (_, picture)) in (0..).zip(burst.pictures()) {
         let what = || format!("place {place}, {}", what());
         let length = picture.len();
@@ -245,6 +247,7 @@ pub fn check_reference_gives_back(burst: &PlainBurst, file: &[u8], what: &dyn Fn
         panic!("the reference refuses with {refusal:?}, {}", what());
     });
     assert_eq!(checked.burst_number, burst.burst_number, "{}", what());
+    assert_eq!(checked.camera, burst.camera, "{}", what());
     assert_eq!(checked.site_mark, burst.site_mark, "{}", what());
     let counts = [checked.taken, checked.kept, checked.dropped].map(|count| count as usize);
     let expected = [burst.taken(), burst.kept(), burst.dropped()];

@@ -2,16 +2,17 @@
 //! its plain burst.
 
 use crate::lent::{check_same, Lent};
-use crate::list::{KEY, SITE_MARK};
+use crate::list::{CAMERA, KEY, SITE_MARK};
 use crate::script::{answer_bytes, calls_of, ANSWER_BYTES};
 use reference::burst::plain::{run, Outcome};
-use reference::burst::{Answer, Call, Recorder};
+use reference::burst::{Answer, Call, Recorder, EDITION_2};
 
 /// What is lent to burst_replay; buffer and answers as they are before it.
 #[derive(Clone, PartialEq)]
 pub struct Recording {
     pub key: Vec<u8>,
     pub burst_number: u64,
+    pub camera: u32,
     pub site_mark: Vec<u8>,
     pub script: Vec<u8>,
     pub buffer: Vec<u8>,
@@ -58,9 +59,11 @@ fn recorded(calls: &[Call], buffer: &mut [u8]) -> Vec<Answer> {
             Call::Begin {
                 key,
                 burst_number,
+                camera,
                 site_mark,
             } => {
-                let (begun, answer) = Recorder::begin(key, *burst_number, site_mark, buffer);
+                let (begun, answer) =
+                    Recorder::begin(key, *burst_number, *camera, site_mark, buffer);
                 recorder = begun;
                 answer
             }
@@ -73,12 +76,14 @@ fn recorded(calls: &[Call], buffer: &mut [u8]) -> Vec<Answer> {
 }
 
 impl Recording {
-    /// With the key and site mark of `list`, and buffers that are nowhere zero.
+    /// With key, camera number and site mark of `list`, and buffers that are
+    /// nowhere zero.
     pub fn new(burst_number: u64, script: Vec<u8>, buffer_len: usize, answers_len: usize) -> Self {
         let pattern = |length| (0..length).map(|i| (i % 251) as u8 + 1).collect();
         Recording {
             key: KEY.to_vec(),
             burst_number,
+            camera: CAMERA,
             site_mark: SITE_MARK.to_vec(),
             script,
             buffer: pattern(buffer_len),
@@ -88,9 +93,10 @@ impl Recording {
 
     pub fn describe(&self) -> String {
         format!(
-            "key {}, burst {}, site mark {}, script {}, buffer {}, answers {}",
+            "key {}, burst {}, camera {}, site mark {}, script {}, buffer {}, answers {}",
             self.key.len(),
             self.burst_number,
+            self.camera,
             self.site_mark.len(),
             self.script.len(),
             self.buffer.len(),
@@ -107,6 +113,7 @@ impl Recording {
         let begin = Call::Begin {
             key: self.key.clone(),
             burst_number: self.burst_number,
+            camera: self.camera,
             site_mark: self.site_mark.clone(),
         };
         let (calls, rest) = calls_of(&self.script, most);
@@ -127,6 +134,7 @@ impl Recording {
         let given = crate::replay(
             &lent.key,
             lent.burst_number,
+            lent.camera,
             &lent.site_mark,
             &lent.script,
             buffer.slice(),
@@ -138,7 +146,7 @@ impl Recording {
         assert_eq!(given, told, "{}", what("count and whole"));
         buffer.check_written(&expected, &|| what("buffer"));
 
-        let plain = (!calls.is_empty()).then(|| run(&calls, self.buffer.len()));
+        let plain = (!calls.is_empty()).then(|| run(EDITION_2, &calls, self.buffer.len()));
         let buffer = buffer.slice().to_vec();
         if let Some(plain) = &plain {
             assert_eq!(recorded, plain.answers, "{}", what("plain answers"));

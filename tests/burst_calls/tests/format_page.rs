@@ -1,7 +1,7 @@
-//! The proved recorder writes the worked files of docs/FORMAT.md from the
-//! page's lists of calls, the proved reader reads them and refuses damaged
-//! copies and fronts without seals as the page says, and the proved lister
-//! prints the page's texts.
+//! The proved recorder writes the worked files of docs/FORMAT.md that are of
+//! edition 2, from the page's lists of calls. The proved reader reads all of
+//! them and refuses damaged copies and fronts without seals as the page says,
+//! and the proved lister prints the page's texts.
 
 use burst_calls::lent::Lent;
 use burst_calls::listing::{check_rooms, check_text, LIST_BYTES};
@@ -12,11 +12,7 @@ use burst_calls::recording::Recording;
 use burst_calls::script::script_of;
 use burst_calls::{check, fetch, list_front, record, replay};
 use reference::burst::Call;
-use reference::page::{self, damaged_copies, worked_file, worked_records, Recorded};
-
-fn counting(from: u8, length: u8) -> Vec<u8> {
-    (0..length).map(|i| from + i).collect()
-}
+use reference::page::{self, counting, damaged_copies, Recorded, WORKED};
 
 fn key() -> Vec<u8> {
     counting(0x00, 16)
@@ -28,11 +24,19 @@ fn recorded() {
     script.extend(counting(0x20, 16));
     script.extend(b"fox");
     script.extend([0, 1]);
-    let (mut buffer, mut answers) = (vec![0xA5; 111], vec![0; 40]);
-    let site_mark = counting(0x10, 16);
-    let given = replay(&key(), 7, &site_mark, &script, &mut buffer, &mut answers);
+    let (mut buffer, mut answers) = (vec![0xA5; 119], vec![0; 40]);
+    let (key, site_mark) = (key(), counting(0x10, 16));
+    let given = replay(
+        &key,
+        7,
+        1000,
+        &site_mark,
+        &script,
+        &mut buffer,
+        &mut answers,
+    );
     assert_eq!(given, (5, 1));
-    assert_eq!(buffer, worked_file());
+    assert_eq!(buffer, WORKED[1].file());
 }
 
 /// The list has the page's answers. Gives the buffer.
@@ -41,6 +45,7 @@ fn check_recorded(recorded: &Recorded, what: &str) -> Vec<u8> {
     let Call::Begin {
         key,
         burst_number,
+        camera,
         site_mark,
     } = first
     else {
@@ -49,6 +54,7 @@ fn check_recorded(recorded: &Recorded, what: &str) -> Vec<u8> {
     let recording = Recording {
         key: key.clone(),
         burst_number: *burst_number,
+        camera: *camera,
         site_mark: site_mark.clone(),
         script: script_of(calls),
         buffer: vec![0xA5; recorded.buffer_len],
@@ -124,39 +130,44 @@ fn fronts() {
     }
 }
 
-/// Burst number, site mark and counts; stamp, shot number and length; the
-/// sealed part. Later bytes of the output stay.
+/// Burst number, site mark, counts and camera number; stamp, shot number and
+/// length; the sealed part. Later bytes of the output stay.
 #[test]
 fn read() {
-    let file = worked_file();
-    let mut info = [0; 30];
-    assert_eq!(check(&key(), &file, &mut info), (0, 0));
-    assert_eq!(info[..8], 7u64.to_le_bytes());
-    assert_eq!(info[8..24], counting(0x10, 16));
-    assert_eq!(info[24..], [3, 0, 1, 0, 2, 0]);
-    for room in [3, 4, 1_000] {
-        let (mut out, mut info) = (Lent::of(room), [0; 22]);
-        let given = fetch(&key(), &file, 0, out.slice(), &mut info);
-        assert_eq!(given, (0, 0));
-        out.check_written(b"fox", &|| "out".into());
-        assert_eq!(info[..6], [2, 0, 3, 0, 0, 0]);
-        assert_eq!(info[6..], counting(0x20, 16));
-    }
-    for (place, part) in worked_records().into_iter().enumerate() {
-        assert_eq!(record(&key(), &file, place), part);
+    for worked in WORKED {
+        let file = worked.file();
+        let mut info = [0; 34];
+        assert_eq!(check(&key(), &file, &mut info), (0, 0));
+        assert_eq!(info[..8], 7u64.to_le_bytes());
+        assert_eq!(info[8..24], counting(0x10, 16));
+        assert_eq!(info[24..30], [3, 0, 1, 0, 2, 0]);
+        assert_eq!(info[30..], worked.camera.to_le_bytes());
+        for room in [3, 4, 1_000] {
+            let (mut out, mut info) = (Lent::of(room), [0; 22]);
+            let given = fetch(&key(), &file, 0, out.slice(), &mut info);
+            assert_eq!(given, (0, 0));
+            out.check_written(b"fox", &|| "out".into());
+            assert_eq!(info[..6], [2, 0, 3, 0, 0, 0]);
+            assert_eq!(info[6..], counting(0x20, 16));
+        }
+        for (place, part) in worked.records().into_iter().enumerate() {
+            assert_eq!(record(&key(), &file, place), part);
+        }
     }
 }
 
 /// 5 and 13 have mark 0, and the output stays.
 #[test]
 fn refused() {
-    let file = worked_file();
-    for (place, room, number) in [(0, 2, 5), (0, 0, 5), (1, 3, 13), (1, 2, 13)] {
-        let (mut out, mut info) = (Lent::of(room), Lent::of(22));
-        let given = fetch(&key(), &file, place, out.slice(), info.slice());
-        assert_eq!(given, (number, 0), "place {place}, room {room}");
-        out.check_untouched(&|| "out".into());
-        info.check_untouched(&|| "info".into());
+    for worked in WORKED {
+        let file = worked.file();
+        for (place, room, number) in [(0, 2, 5), (0, 0, 5), (1, 3, 13), (1, 2, 13)] {
+            let (mut out, mut info) = (Lent::of(room), Lent::of(22));
+            let given = fetch(&key(), &file, place, out.slice(), info.slice());
+            assert_eq!(given, (number, 0), "place {place}, room {room}");
+            out.check_untouched(&|| "out".into());
+            info.check_untouched(&|| "info".into());
+        }
     }
 }
 
@@ -174,27 +185,30 @@ fn damaged() {
         let first = lines.lines().next();
         assert_eq!((number, first), (0, Some(&copy.line[..])), "{copy:?}");
     }
-    let longer = [worked_file(), vec![0]].concat();
-    for file in [&worked_file()[..110], &longer] {
-        let given = check_refused(&key(), file, &|| "beside the table".into());
-        assert_eq!(given, (12, 0));
+    for right in WORKED.map(|worked| worked.file()) {
+        let longer = [&right[..], &[0]].concat();
+        for file in [&right[..right.len() - 1], &longer] {
+            let given = check_refused(&key(), file, &|| "beside the table".into());
+            assert_eq!(given, (12, 0));
+        }
     }
 }
 
 #[test]
 fn listed() {
     let what = || "a text of the page".into();
-    for (file, text) in [
-        ("file", "listing"),
-        ("second file", "second listing"),
-        ("third file", "third listing"),
-    ] {
-        check_rooms(&page::bytes(file), &page::text(text), &what);
+    for worked in WORKED {
+        check_rooms(&worked.file(), &worked.listing(), &what);
+        let mut long = worked.file();
+        long.resize(65_536, 0);
+        check_rooms(&long, &page::text("broken"), &what);
+        long.push(0);
+        check_text(&long, LIST_BYTES, &page::text("too long"), &what);
+    }
+    for name in ["second", "third"] {
+        let file = page::bytes(&format!("{name} file"));
+        let text = page::text(&format!("{name} listing"));
+        check_rooms(&file, &text, &what);
     }
     check_rooms(&[], &page::text("broken"), &what);
-    let mut long = worked_file();
-    long.resize(65_536, 0);
-    check_rooms(&long, &page::text("broken"), &what);
-    long.push(0);
-    check_text(&long, LIST_BYTES, &page::text("too long"), &what);
 }

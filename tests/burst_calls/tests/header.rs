@@ -3,7 +3,7 @@
 use proved_calls::burst;
 use std::path::Path;
 
-const NUMBERS: [(&str, usize); 14] = [
+const NUMBERS: [(&str, usize); 15] = [
     ("CALL_DROP", burst::CALL_DROP as usize),
     ("CALL_CLOSE", burst::CALL_CLOSE as usize),
     ("CALL_KEEP", burst::CALL_KEEP as usize),
@@ -12,7 +12,8 @@ const NUMBERS: [(&str, usize); 14] = [
     ("STAMP_BYTES", burst::STAMP_BYTES),
     ("MAX_PICTURE_BYTES", burst::MAX_PICTURE_BYTES),
     ("MAX_SHOTS", burst::MAX_SHOTS),
-    ("MIN_FILE_BYTES", burst::MIN_FILE_BYTES),
+    ("MIN_WRITTEN_BYTES", burst::MIN_WRITTEN_BYTES),
+    ("MIN_READ_BYTES", burst::MIN_READ_BYTES),
     ("CHECK_INFO_BYTES", burst::CHECK_INFO_BYTES),
     ("FETCH_INFO_BYTES", burst::FETCH_INFO_BYTES),
     ("LIST_BYTES", burst::LIST_BYTES),

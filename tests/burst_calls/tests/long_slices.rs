@@ -2,12 +2,13 @@
 //! 32 bits. The bytes are zeros that the system hands out when they are
 //! touched; only their front is.
 
-use burst_calls::list::{bytes, file_of, shots_of, KEY, SITE_MARK};
+use burst_calls::list::{bytes, file_of, shots_of, CAMERA, KEY, SITE_MARK};
 use burst_calls::listing::{check_text, LIST_BYTES, TOO_LONG};
 use burst_calls::reading::{CHECK_INFO, FETCH_INFO};
 use burst_calls::script::script_of;
 use reference::burst::lister::list;
 use reference::burst::reader::RecordPart;
+use reference::burst::{EDITIONS, EDITION_2};
 
 /// 2 to the 32nd.
 const FAR: usize = 1 << 32;
@@ -24,7 +25,7 @@ fn replayed(
     buffer: &mut [u8],
     answers: &mut [u8],
 ) -> (Vec<(u32, u32)>, u32) {
-    let (count, whole) = burst_calls::replay(key, 7, site_mark, script, buffer, answers);
+    let (count, whole) = burst_calls::replay(key, 7, CAMERA, site_mark, script, buffer, answers);
     let four = |bytes: &[u8]| u32::from_le_bytes(bytes.try_into().unwrap());
     let answers = answers.chunks(8).take(count);
     let answers = answers.map(|answer| (four(&answer[..4]), four(&answer[4..])));
@@ -52,10 +53,10 @@ fn lengths_of_more_than_32_bits() {
 
 /// 2 to the 32nd + 16 bytes are not 16.
 fn keys_and_site_marks(long: &mut [u8]) {
-    let file = file_of(7, &[0, 3, 0]);
+    let file = file_of(EDITION_2, 7, &[0, 3, 0]);
     let long = with_front(long, &KEY);
     let key = &long[..FAR + 16];
-    let (mut buffer, mut answers, mut info) = ([5; 64], [5; 16], [5; CHECK_INFO]);
+    let (mut buffer, mut answers, mut info) = ([5; 72], [5; 16], [5; CHECK_INFO]);
     let answered = replayed(key, &SITE_MARK, &[1], &mut buffer, &mut answers);
     assert_eq!(answered, (vec![(1, 0), (8, 0)], 1));
     assert_eq!(burst_calls::check(key, &file, &mut info), (1, 0));
@@ -70,27 +71,28 @@ fn keys_and_site_marks(long: &mut [u8]) {
     assert_eq!(burst_calls::record(key, &file, 0), refused);
     let answered = replayed(&KEY, key, &[1], &mut buffer, &mut answers);
     assert_eq!(answered, (vec![(3, 0), (8, 0)], 1));
-    assert_eq!((buffer, info), ([5; 64], [5; CHECK_INFO]));
+    assert_eq!((buffer, info), ([5; 72], [5; CHECK_INFO]));
 }
 
 /// A buffer of 2 to the 32nd + 10 bytes is long enough, and so are answers of
 /// 2 to the 32nd + 8 bytes.
 fn buffers_and_answers(long: &mut [u8]) {
     let script = script_of(&shots_of(&[0, 3, 0]));
-    let expected = (vec![(0, 0), (0, 1), (0, 2), (0, 3), (0, 111)], 1);
+    let expected = (vec![(0, 0), (0, 1), (0, 2), (0, 3), (0, 119)], 1);
+    let file = file_of(EDITION_2, 7, &[0, 3, 0]);
     let mut answers = [5; 40];
     let buffer = &mut with_front(long, &[9; 200])[..FAR + 10];
     let answered = replayed(&KEY, &SITE_MARK, &script, buffer, &mut answers);
     assert_eq!(answered, expected);
-    assert!(buffer[..111] == file_of(7, &[0, 3, 0]), "the file");
-    assert_eq!(buffer[111..200], [9; 89]);
+    assert!(buffer[..119] == file, "the file");
+    assert_eq!(buffer[119..200], [9; 81]);
 
-    let mut buffer = [5; 111];
+    let mut buffer = [5; 119];
     let answers = &mut with_front(long, &[9; 50])[..FAR + 8];
     let answered = replayed(&KEY, &SITE_MARK, &script, &mut buffer, answers);
     assert_eq!(answered, expected);
     assert_eq!(answers[40..50], [9; 10]);
-    assert!(buffer[..] == file_of(7, &[0, 3, 0]), "the file");
+    assert!(buffer[..] == file, "the file");
 }
 
 /// The longest picture that a script can hold is too long, and the script goes
@@ -101,9 +103,9 @@ fn scripts(long: &mut [u8]) {
     let long = with_front(long, &front);
     long[end] = 1;
     let script = &long[..=end];
-    let (mut buffer, mut answers) = ([5; 64], [5; 32]);
+    let (mut buffer, mut answers) = ([5; 72], [5; 32]);
     let answered = replayed(&KEY, &SITE_MARK, script, &mut buffer, &mut answers);
-    assert_eq!(answered, (vec![(0, 0), (10, 0), (0, 64)], 1));
+    assert_eq!(answered, (vec![(0, 0), (10, 0), (0, 72)], 1));
     let cut = &long[..end - 1];
     let answered = replayed(&KEY, &SITE_MARK, cut, &mut buffer, &mut answers);
     assert_eq!(answered, (vec![(0, 0)], 0));
@@ -120,23 +122,25 @@ fn scripts(long: &mut [u8]) {
 /// A file that is longer than its total by 2 to the 32nd breaks a front rule,
 /// and is too long to be listed.
 fn files(long: &mut [u8]) {
-    let example = file_of(7, &[0, 3, 0]);
-    for extra in [0, 1] {
-        let file = &with_front(long, &example)[..FAR + 111 + extra];
-        let (mut out, mut info) = ([5; 3], [5; CHECK_INFO]);
-        assert_eq!(burst_calls::check(&KEY, file, &mut info), (12, 0));
-        let fetched = burst_calls::fetch(&KEY, file, 0, &mut out, &mut info);
-        assert_eq!(fetched, (12, 0));
-        assert_eq!((out, info), ([5; 3], [5; CHECK_INFO]));
-        let part = burst_calls::record(&KEY, file, 0);
-        assert_eq!((part.number, part.offset, part.length), (12, 0, 0));
-        check_text(file, LIST_BYTES, TOO_LONG, &|| format!("{extra} more"));
+    for edition in EDITIONS {
+        let example = file_of(edition, 7, &[0, 3, 0]);
+        for extra in [0, 1] {
+            let file = &with_front(long, &example)[..FAR + example.len() + extra];
+            let (mut out, mut info) = ([5; 3], [5; CHECK_INFO]);
+            assert_eq!(burst_calls::check(&KEY, file, &mut info), (12, 0));
+            let fetched = burst_calls::fetch(&KEY, file, 0, &mut out, &mut info);
+            assert_eq!(fetched, (12, 0));
+            assert_eq!((out, info), ([5; 3], [5; CHECK_INFO]));
+            let part = burst_calls::record(&KEY, file, 0);
+            assert_eq!((part.number, part.offset, part.length), (12, 0, 0));
+            check_text(file, LIST_BYTES, TOO_LONG, &|| format!("{extra} more"));
+        }
     }
 }
 
 /// Output, info and text of 2 to the 32nd bytes, or one more, are long enough.
 fn outputs_and_infos(long: &mut [u8]) {
-    let file = file_of(7, &[0, 3, 0]);
+    let file = file_of(EDITION_2, 7, &[0, 3, 0]);
     let picture = bytes(1, 3);
     let fetch_info = [vec![2, 0, 3, 0, 0, 0], bytes(101, 16)].concat();
     for more in [0, 1] {
@@ -157,7 +161,8 @@ fn outputs_and_infos(long: &mut [u8]) {
 
         let info = &mut with_front(long, &[9; 100])[..FAR + more];
         assert_eq!(burst_calls::check(&KEY, &file, info), (0, 0));
-        assert_eq!(info[24..31], [3, 0, 1, 0, 2, 0, 9]);
+        assert_eq!(info[24..30], [3, 0, 1, 0, 2, 0]);
+        assert_eq!(info[30..35], [0x0A, 0x0B, 0x0C, 0x0D, 9]);
 
         let text = &mut with_front(long, &[9; 100])[..FAR + more];
         assert_eq!(burst_calls::list_front(&file, text), (0, 55));

@@ -5,7 +5,7 @@
 use std::collections::BTreeMap;
 
 use burst_calls::random_list::{
-    check_recording, random_recording, recording_of_any_bytes, recording_with,
+    check_recording, random_camera, random_recording, recording_of_any_bytes, recording_with,
 };
 use burst_calls::recording::{Performed, Recording};
 use burst_calls::script::{calls_of, KEEP};
@@ -76,7 +76,7 @@ impl Seen {
     fn check(&self, least: usize) {
         let mut expected = Vec::new();
         for (call, numbers) in [
-            ("begin", &[0, 1, 3, 11][..]),
+            ("begin", &[0, 1, 3, 11, 15][..]),
             ("close", &[0, 8]),
             ("drop", &[0, 8, 9]),
             ("keep", &[0, 3, 8, 9, 10, 11]),
@@ -148,7 +148,8 @@ fn long_lists() {
         }
         calls.push(Call::Close);
         let (key, site_mark) = (generator.next_bytes(16), generator.next_bytes(16));
-        let recording = recording_with(&mut generator, key, number, site_mark, &calls);
+        let camera = random_camera(&mut generator);
+        let recording = recording_with(&mut generator, key, number, camera, site_mark, &calls);
         let what = || format!("long list {number}, seed {seed:#x}");
         try_recording(&recording, &mut seen, &what);
     }

@@ -12,7 +12,7 @@ const SEED: u64 = 0x4EAD_5000_0000;
 
 #[test]
 fn random_calls() {
-    let mut seen = [(); 4].map(|_| BTreeSet::new());
+    let mut seen = [(); 5].map(|_| BTreeSet::new());
     for round in 0..ROUNDS {
         let seed = SEED + round;
         let what = || format!("round {round}, seed {seed:#x}");
@@ -25,4 +25,5 @@ fn random_calls() {
     assert_eq!(seen[1], BTreeSet::from([0, 1, 5, 7, 12, 13]));
     assert_eq!(seen[2], BTreeSet::from([0, 1, 7, 12, 13]));
     assert_eq!(seen[3], BTreeSet::from([0, 5, 12]));
+    assert_eq!(seen[4], BTreeSet::from([0, 1, 2]));
 }

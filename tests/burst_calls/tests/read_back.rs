@@ -1,6 +1,7 @@
 //! Files written by each side, read by the other.
 
-use burst_calls::list::{burst_of, KEY, SITE_MARK};
+use burst_calls::list::{burst_of, CAMERA, KEY, SITE_MARK};
+use burst_calls::random_list::random_camera;
 use burst_calls::reading::{
     check_check, check_fetch, check_gives_back, check_record, check_reference_gives_back,
     CHECK_INFO, FETCH_INFO,
@@ -11,7 +12,7 @@ use proved_calls::icepole::icepole128;
 use reference::burst::layout::{nonce, open_shot};
 use reference::burst::lister::list;
 use reference::burst::plain::PlainShot;
-use reference::burst::{Call, Entry, PlainBurst};
+use reference::burst::{Call, Edition, Entry, PlainBurst, EDITIONS, EDITION_2};
 use reference::random::SplitMix64;
 
 /// Burst `n` has the seed plus `n`.
@@ -20,7 +21,7 @@ const SEED: u64 = 0x4EAD_0000_0000;
 
 /// Up to 12 shots, rarely up to 60; pictures of some hundred bytes, rarely of
 /// some ten thousand.
-fn random_burst(generator: &mut SplitMix64) -> PlainBurst {
+fn random_burst(generator: &mut SplitMix64, edition: Edition) -> PlainBurst {
     let count = match generator.below(50) {
         0 => generator.below(61),
         _ => generator.below(13),
@@ -35,9 +36,12 @@ fn random_burst(generator: &mut SplitMix64) -> PlainBurst {
         (generator.below(4) > 0).then(|| (stamp, generator.next_bytes(length)))
     };
     let shots = (0..count).map(&mut shot).collect();
+    let camera = random_camera(generator);
     PlainBurst {
+        edition,
         key: generator.next_bytes(16).try_into().unwrap(),
         burst_number: generator.next_word() >> generator.below(64),
+        camera: if edition.has_camera { camera } else { 0 },
         site_mark: generator.next_bytes(16).try_into().unwrap(),
         shots,
         closed: true,
@@ -58,11 +62,15 @@ fn calls_of(burst: &PlainBurst) -> Vec<Call> {
     calls
 }
 
-fn for_each_burst(mut test: impl FnMut(&PlainBurst, &mut SplitMix64, &dyn Fn() -> String)) {
-    for number in 0..BURSTS {
+/// Bursts of these editions, in turn.
+fn for_each_burst(
+    editions: &[Edition],
+    mut test: impl FnMut(&PlainBurst, &mut SplitMix64, &dyn Fn() -> String),
+) {
+    for (number, edition) in (0..BURSTS).zip(editions.iter().cycle()) {
         let seed = SEED + number;
         let mut generator = SplitMix64::new(seed);
-        let burst = random_burst(&mut generator);
+        let burst = random_burst(&mut generator, *edition);
         let what = || format!("burst {number}, seed {seed:#x}");
         test(&burst, &mut generator, &what);
     }
@@ -71,7 +79,7 @@ fn for_each_burst(mut test: impl FnMut(&PlainBurst, &mut SplitMix64, &dyn Fn() -
 /// The reference writes, the calls read.
 #[test]
 fn files_of_the_reference() {
-    for_each_burst(|burst, generator, what| {
+    for_each_burst(&EDITIONS, |burst, generator, what| {
         let file = burst.file();
         check_gives_back(burst, &file, what);
         // Output and info may be longer; their later bytes stay.
@@ -88,13 +96,14 @@ fn files_of_the_reference() {
 /// The calls write, the reference reads.
 #[test]
 fn files_of_the_calls() {
-    for_each_burst(|burst, generator, what| {
+    for_each_burst(&[EDITION_2], |burst, generator, what| {
         let script = script_of(&calls_of(burst));
         let answers = vec![0; 8 * (burst.taken() + 2)];
         let spare = generator.below(100);
         let recording = Recording {
             key: burst.key.to_vec(),
             burst_number: burst.burst_number,
+            camera: burst.camera,
             site_mark: burst.site_mark.to_vec(),
             script,
             buffer: generator.next_bytes(burst.total() + spare),
@@ -112,19 +121,21 @@ fn files_of_the_calls() {
 /// What burst_record names opens by itself, with its index entry.
 #[test]
 fn sealed_records_open_alone() {
-    let lengths = [0, 3, 130, 0, 1, 128];
-    let burst = burst_of(60, &lengths);
-    let file = burst.file();
-    let index = file.len() - 32 - 12 * 4;
-    for (place, shot) in [(0, 2), (1, 3), (2, 5), (3, 6)] {
-        let part = burst_calls::record(&KEY, &file, place);
-        assert_eq!((part.number, part.mark), (0, 0));
-        let sealed = &file[part.offset..part.offset + part.length];
-        let entry = &file[index + 12 * usize::from(place)..];
-        assert_eq!(Entry::from_bytes(entry).shot, shot);
-        let (picture, stamp) = open_shot(&KEY, 60, shot, [&entry[..12], &[]], sealed).unwrap();
-        let expected = burst.shots[usize::from(shot) - 1].clone();
-        assert_eq!(Some((stamp, picture)), expected);
+    for edition in EDITIONS {
+        let burst = burst_of(edition, 60, &[0, 3, 130, 0, 1, 128]);
+        let file = burst.file();
+        let index = file.len() - 32 - 12 * 4;
+        for (place, shot) in [(0, 2), (1, 3), (2, 5), (3, 6)] {
+            let part = burst_calls::record(&KEY, &file, place);
+            assert_eq!((part.number, part.mark), (0, 0));
+            let sealed = &file[part.offset..part.offset + part.length];
+            let entry = &file[index + 12 * place..];
+            assert_eq!(Entry::from_bytes(entry).shot, shot);
+            let ad: [&[u8]; 2] = [&entry[..12], &[]];
+            let (picture, stamp) = open_shot(&KEY, 60, shot, burst.camera, ad, sealed).unwrap();
+            let expected = burst.shots[usize::from(shot) - 1].clone();
+            assert_eq!(Some((stamp, picture)), expected);
+        }
     }
 }
 
@@ -132,7 +143,7 @@ fn sealed_records_open_alone() {
 /// then not what was recorded.
 #[test]
 fn sealed_records_open_in_place() {
-    let burst = burst_of(63, &[0, 3, 130, 0, 1, 128]);
+    let burst = burst_of(EDITION_2, 63, &[0, 3, 130, 0, 1, 128]);
     let mut file = burst.file();
     let parts = [0, 1, 2, 3].map(|place| burst_calls::record(&KEY, &file, place));
     let index = file[file.len() - 32 - 12 * 4..].to_vec();
@@ -141,7 +152,7 @@ fn sealed_records_open_in_place() {
         let shot = Entry::from_bytes(entry).shot;
         let (stamp, picture) = burst.shots[usize::from(shot) - 1].clone().unwrap();
         let record = &mut file[part.offset..part.offset + part.length];
-        let (nonce, mut info) = (nonce(63, shot), [0; 24]);
+        let (nonce, mut info) = (nonce(63, shot, CAMERA), [0; 24]);
         let number = icepole128::open_in_place(&KEY, &nonce, entry, &[], record, &mut info);
         assert_eq!(number, 0, "shot {shot}");
         assert_eq!(info[..8], (picture.len() as u64).to_le_bytes());
@@ -161,7 +172,7 @@ fn shifted(bytes: &[u8], shift: usize) -> Vec<u8> {
 /// What is lent to be read may stand at any address.
 #[test]
 fn slices_at_any_address() {
-    let burst = burst_of(62, &[0, 3, 130]);
+    let burst = burst_of(EDITION_2, 62, &[0, 3, 130]);
     let script = script_of(&calls_of(&burst));
     for shift in 0..16 {
         let [key, site_mark, script, file] =
@@ -169,7 +180,15 @@ fn slices_at_any_address() {
         let (key, file) = (&key[shift..], &file[shift..]);
         let (mut buffer, mut answers) = (vec![1; file.len()], [1; 40]);
         let (site_mark, script) = (&site_mark[shift..], &script[shift..]);
-        let given = burst_calls::replay(key, 62, site_mark, script, &mut buffer, &mut answers);
+        let given = burst_calls::replay(
+            key,
+            62,
+            CAMERA,
+            site_mark,
+            script,
+            &mut buffer,
+            &mut answers,
+        );
         assert_eq!(given, (5, 1), "shift {shift}");
         assert!(buffer == file, "shift {shift}");
         let what = || format!("shift {shift}");
@@ -184,11 +203,13 @@ fn slices_at_any_address() {
 /// Two files that differ in the site mark alone give back each its own.
 #[test]
 fn site_marks() {
-    let burst = burst_of(61, &[4]);
-    for changed in 0..16 {
-        let mut other = burst.clone();
-        other.site_mark[changed] ^= 0x80;
-        assert_ne!(other.site_mark, SITE_MARK);
-        check_gives_back(&other, &other.file(), &|| format!("byte {changed}"));
+    for edition in EDITIONS {
+        let burst = burst_of(edition, 61, &[4]);
+        for changed in 0..16 {
+            let mut other = burst.clone();
+            other.site_mark[changed] ^= 0x80;
+            assert_ne!(other.site_mark, SITE_MARK);
+            check_gives_back(&other, &other.file(), &|| format!("byte {changed}"));
+        }
     }
 }

@@ -15,7 +15,7 @@ fn calls() -> Vec<Call> {
 
 /// The answers to `calls` on a buffer that is long enough.
 const NUMBERS: [u32; 9] = [0, 0, 0, 0, 0, 0, 8, 8, 8];
-const SHOTS_AND_TOTAL: [u64; 9] = [0, 1, 2, 3, 4, 175, 0, 0, 0];
+const SHOTS_AND_TOTAL: [u64; 9] = [0, 1, 2, 3, 4, 183, 0, 0, 0];
 
 #[test]
 fn answers_of_a_list() {
@@ -23,7 +23,7 @@ fn answers_of_a_list() {
     let performed = recording.check(&|| "a list".into());
     assert_eq!(performed.numbers(), NUMBERS);
     assert_eq!(performed.shots_and_totals(), SHOTS_AND_TOTAL);
-    assert_eq!(performed.file().map(<[u8]>::len), Some(175));
+    assert_eq!(performed.file().map(<[u8]>::len), Some(183));
     assert!(performed.whole);
 }
 
@@ -75,11 +75,11 @@ fn every_byte_that_is_no_call() {
     for first in 3..=255 {
         for rest in &rests {
             let script = [&[DROP, first], &rest[..]].concat();
-            let performed = Recording::new(3, script, 111, 32).check(&|| format!("first {first}"));
+            let performed = Recording::new(3, script, 119, 32).check(&|| format!("first {first}"));
             assert_eq!(performed.shots_and_totals(), [0, 1], "{first}");
             assert!(!performed.whole, "{first}");
         }
-        let performed = Recording::new(3, vec![first], 111, 32).check(&|| format!("only {first}"));
+        let performed = Recording::new(3, vec![first], 119, 32).check(&|| format!("only {first}"));
         assert_eq!((performed.numbers(), performed.whole), (vec![0], false));
     }
     // Such a byte inside a stamp or a picture is theirs.
@@ -87,7 +87,7 @@ fn every_byte_that_is_no_call() {
     let stamp = bytes(255, 16);
     let calls = [Call::Keep { stamp, picture }, Call::Close];
     let performed = Recording::new(3, script_of(&calls), 500, 32).check(&|| "inside".into());
-    assert_eq!(performed.shots_and_totals(), [0, 1, 364]);
+    assert_eq!(performed.shots_and_totals(), [0, 1, 372]);
     assert!(performed.whole);
 }
 
@@ -98,8 +98,8 @@ fn the_three_calls() {
     let mut script = vec![DROP, KEEP, 16, 3, 0, 0, 0];
     script.extend(bytes(7, 19));
     script.push(CLOSE);
-    let performed = Recording::new(3, script, 111, 32).check(&|| "three calls".into());
-    assert_eq!(performed.shots_and_totals(), [0, 1, 2, 111]);
+    let performed = Recording::new(3, script, 119, 32).check(&|| "three calls".into());
+    assert_eq!(performed.shots_and_totals(), [0, 1, 2, 119]);
     assert!(performed.whole);
 }
 
@@ -132,9 +132,10 @@ fn a_close_that_is_not_performed() {
 #[test]
 fn refused_calls_are_performed() {
     let calls = [keep(1, 0), Call::Close, Call::Close, Call::Drop];
-    for (key, buffer) in [(16, 64), (15, 64), (16, 63), (16, 0)] {
+    for (key, camera, buffer) in [(16, 1, 72), (15, 1, 72), (16, 0, 72), (16, 1, 71)] {
         let mut recording = Recording::new(9, script_of(&calls), buffer, 40);
         recording.key.truncate(key);
+        recording.camera = camera;
         let performed = recording.check(&|| "refused".into());
         assert!(performed.whole && performed.answers.len() == 5);
         assert!(performed.numbers()[4] == 8);
@@ -143,7 +144,7 @@ fn refused_calls_are_performed() {
         assert!(!performed.whole && performed.answers.len() == 4);
     }
     for room in 0..20 {
-        let performed = Recording::new(9, vec![], 64, room).check(&|| "empty".into());
+        let performed = Recording::new(9, vec![], 72, room).check(&|| "empty".into());
         assert_eq!(performed.whole, room >= 8, "room {room}");
     }
 }
@@ -156,11 +157,11 @@ fn every_stamp_length() {
         let stamp = bytes(7, length);
         let picture = bytes(8, 3);
         let calls = [Call::Keep { stamp, picture }, Call::Drop, Call::Close];
-        let recording = Recording::new(4, script_of(&calls), 111, 40);
+        let recording = Recording::new(4, script_of(&calls), 119, 40);
         let performed = recording.check(&|| format!("stamp {length}"));
         let expected = match length {
-            16 => ([0, 0, 0, 0], [0, 1, 2, 111]),
-            _ => ([0, 3, 0, 0], [0, 0, 1, 64]),
+            16 => ([0, 0, 0, 0], [0, 1, 2, 119]),
+            _ => ([0, 3, 0, 0], [0, 0, 1, 72]),
         };
         let numbers: [u32; 4] = performed.numbers().try_into().unwrap();
         assert_eq!(numbers, expected.0, "stamp {length}");
@@ -197,7 +198,7 @@ fn keeps_that_say_too_much() {
 #[test]
 fn no_room_at_all() {
     for room in 0..8 {
-        for buffer in [0, 63, 64, 200] {
+        for buffer in [0, 71, 72, 200] {
             let recording = Recording::new(6, script_of(&calls()), buffer, room);
             let performed = recording.check(&|| "no room".into());
             assert!(performed.calls.is_empty() && !performed.whole);
@@ -206,14 +207,14 @@ fn no_room_at_all() {
     }
 }
 
-/// An empty script is a begin alone: it zeros 32 bytes.
+/// An empty script is a begin alone: it zeros 40 bytes, and the others stay.
 #[test]
 fn begin_alone() {
-    for buffer in [64, 65, 1000] {
+    for buffer in [72, 73, 1000] {
         let recording = Recording::new(7, Vec::new(), buffer, 8);
         let performed = recording.check(&|| "begin alone".into());
         assert_eq!(performed.numbers(), [0]);
-        assert_eq!(performed.buffer[..32], [0; 32]);
-        assert_eq!(performed.buffer[32..], recording.buffer[32..]);
+        assert_eq!(performed.buffer[..40], [0; 40]);
+        assert_eq!(performed.buffer[40..], recording.buffer[40..]);
     }
 }

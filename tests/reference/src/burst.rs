@@ -1,5 +1,6 @@
 //! The burst file (the scope paper, "The burst file", "Recorder", "Reader",
-//! "Turned down, by example").
+//! "Turned down, by example"), in edition 1 and with the camera number of
+//! request N1 in edition 2.
 //!
 //! `plain` works a list of calls out from its arguments and the buffer's
 //! length alone. `recorder` does the same calls on a real buffer. `reader`
@@ -12,7 +13,7 @@ pub mod plain;
 pub mod reader;
 pub mod recorder;
 
-pub use layout::{Entry, Header};
+pub use layout::{Edition, Entry, Header, EDITIONS, EDITION_1, EDITION_2};
 pub use plain::{Call, PlainBurst};
 pub use recorder::Recorder;
 

@@ -1,10 +1,12 @@
 //! What stands on docs/FORMAT.md to be held true: its fenced blocks, each with
-//! a kind and a name, the tables of its examples, each under a heading of its
-//! own, and bytes within its text.
+//! a kind and a name, tables, each under a heading of its own, and bytes within
+//! its text.
 
-use crate::burst::layout::ENTRY_BYTES;
+use std::ops::Range;
+
+use crate::burst::layout::{nonce, ENTRY_BYTES};
 use crate::burst::reader::RecordPart;
-use crate::burst::{Answer, Call, Entry, Header};
+use crate::burst::{Answer, Call, Edition, Entry, Header, EDITION_1, EDITION_2};
 
 const PAGE: &str = include_str!("../../../docs/FORMAT.md");
 
@@ -64,14 +66,90 @@ pub fn text(name: &str) -> String {
     format!("{}\n", block("text", name))
 }
 
-/// The first worked file.
-pub fn worked_file() -> Vec<u8> {
-    bytes("file")
+/// Bytes, each one more than the one before.
+pub fn counting(from: u8, length: usize) -> Vec<u8> {
+    (0..length).map(|i| from.wrapping_add(i as u8)).collect()
 }
 
-/// What record answers of it at places 0 and 1, by the page's text.
-pub fn worked_records() -> [RecordPart; 2] {
-    [record_part(0, 32, 35), record_part(13, 0, 0)]
+/// What the page says of the first worked file in one edition.
+#[derive(Clone, Copy, Debug, PartialEq, Eq)]
+pub struct Worked {
+    pub edition: Edition,
+    /// What check answers.
+    pub camera: u32,
+    /// Where record, index and closing seal begin, and the total length.
+    pub offsets: [usize; 4],
+}
+
+pub const WORKED: [Worked; 2] = [
+    Worked {
+        edition: EDITION_1,
+        camera: 0,
+        offsets: [32, 67, 79, 111],
+    },
+    Worked {
+        edition: EDITION_2,
+        camera: 1000,
+        offsets: [40, 75, 87, 119],
+    },
+];
+
+/// A sealed part of a file, and what is sealed there.
+#[derive(Clone, Debug, PartialEq, Eq)]
+pub struct Part {
+    pub nonce: [u8; 16],
+    pub ad: Vec<u8>,
+    pub secret: Vec<u8>,
+    pub message: Vec<u8>,
+    pub sealed: Vec<u8>,
+}
+
+impl Worked {
+    pub fn file(&self) -> Vec<u8> {
+        bytes(&format!("file in edition {}", self.edition.number))
+    }
+
+    pub fn listing(&self) -> String {
+        text(&format!("listing in edition {}", self.edition.number))
+    }
+
+    pub fn total(&self) -> usize {
+        self.offsets[3]
+    }
+
+    /// The list of calls that makes it.
+    pub fn calls(&self) -> Vec<Call> {
+        let keep = Call::Keep {
+            stamp: counting(0x20, 16),
+            picture: b"fox".to_vec(),
+        };
+        let begin = begin("00 .. 0F", 7, self.camera, "10 .. 1F");
+        vec![begin, Call::Drop, keep, Call::Drop, Call::Close]
+    }
+
+    /// What record answers at places 0 and 1.
+    pub fn records(&self) -> [RecordPart; 2] {
+        [record_part(0, self.offsets[0], 35), record_part(13, 0, 0)]
+    }
+
+    /// The record and the closing seal.
+    pub fn parts(&self) -> [Part; 2] {
+        let file = self.file();
+        let [record, index, closing, total] = self.offsets;
+        let part = |shot, ad, secret, message: &[u8], sealed: Range<usize>| Part {
+            nonce: nonce(7, shot, self.camera),
+            ad,
+            secret: counting(secret, 16),
+            message: message.to_vec(),
+            sealed: file[sealed].to_vec(),
+        };
+        let entry = &file[index..closing];
+        let header_and_index = [&file[..record], entry].concat();
+        [
+            part(2, entry.to_vec(), 0x20, b"fox", record..index),
+            part(0, header_and_index, 0x10, &[], closing..total),
+        ]
+    }
 }
 
 fn record_part(number: u32, offset: usize, length: usize) -> RecordPart {
@@ -136,38 +214,101 @@ pub fn run_of(cell: &str) -> Vec<u8> {
     }
 }
 
-/// A row of the table of damaged copies: the byte that is changed, check's
+/// A row of the tables of header and index entry. Its name ends where a remark
+/// on it begins.
+#[derive(Clone, Debug, PartialEq, Eq)]
+pub struct Field {
+    pub offset: usize,
+    pub length: usize,
+    pub name: &'static str,
+    /// Edition 1 has no such field.
+    pub is_of_edition_2: bool,
+}
+
+/// The fields of `Header` or `Index entry`.
+pub fn fields(heading: &str) -> Vec<Field> {
+    let field = |[offset, length, field]: [&'static str; 3]| Field {
+        offset: decimal(offset),
+        length: decimal(length),
+        name: field.split([',', ':', ';']).next().unwrap(),
+        is_of_edition_2: field.ends_with("; in edition 2 only"),
+    };
+    rows(heading).into_iter().map(field).collect()
+}
+
+/// The rows of the table of the editions: what differs, then for each edition
+/// how, without commas.
+pub fn editions() -> Vec<(&'static str, [String; 2])> {
+    let row = |[what, first, second]: [&'static str; 3]| {
+        (what, [first, second].map(|cell| cell.replace(',', "")))
+    };
+    let rows = rows("Where the editions differ");
+    rows.into_iter().map(row).collect()
+}
+
+/// Bytes of a file, and the number there; sealed bytes are none.
+#[derive(Clone, Debug, PartialEq, Eq)]
+pub struct Stretch {
+    pub bytes: Range<usize>,
+    pub number: Option<u64>,
+}
+
+/// Where the two first files differ: what it is, and where it stands in each of
+/// them that has it.
+pub fn differences() -> Vec<(&'static str, [Option<Stretch>; 2])> {
+    let stretch = |(bytes, number): (&str, &str)| {
+        let Some((first, last)) = bytes.split_once(" to ") else {
+            assert_eq!((bytes, number), ("none", "none"));
+            return None;
+        };
+        Some(Stretch {
+            bytes: decimal(first)..decimal::<usize>(last) + 1,
+            number: (number != "sealed").then(|| decimal(number)),
+        })
+    };
+    let row = |[what, at_1, number_1, at_2, number_2]: [&'static str; 5]| {
+        (what, [(at_1, number_1), (at_2, number_2)].map(stretch))
+    };
+    let rows = rows("Where the two files differ");
+    rows.into_iter().map(row).collect()
+}
+
+/// A row of the table of damaged copies: the bytes that are changed, check's
 /// number and mark, and the first line of the listing.
 #[derive(Clone, Debug, PartialEq, Eq)]
 pub struct Damaged {
+    pub worked: Worked,
     pub at: usize,
-    pub from: u8,
-    pub to: u8,
+    pub from: Vec<u8>,
+    pub to: Vec<u8>,
     pub number: u32,
     pub mark: u32,
     pub line: String,
 }
 
 impl Damaged {
-    /// The worked file with that byte changed.
+    /// The worked file with those bytes changed.
     pub fn file(&self) -> Vec<u8> {
-        let mut file = worked_file();
-        assert_eq!(file[self.at], self.from, "{self:?}");
-        file[self.at] = self.to;
+        let mut file = self.worked.file();
+        let changed = &mut file[self.at..][..self.from.len()];
+        assert_eq!(changed, self.from, "{self:?}");
+        changed.copy_from_slice(&self.to);
         file
     }
 }
 
 pub fn damaged_copies() -> Vec<Damaged> {
-    let copy = |[at, from, to, number, mark, _, line]: [&str; 7]| Damaged {
+    let copy = |[edition, at, from, to, number, mark, _, line]: [&str; 8]| Damaged {
+        worked: WORKED[decimal::<usize>(edition) - 1],
         at: decimal(at),
-        from: byte(from),
-        to: byte(to),
+        from: run_of(from),
+        to: run_of(to),
         number: decimal(number),
         mark: decimal(mark),
         line: line.trim_matches('`').into(),
     };
-    rows("Damaged copies of it").into_iter().map(copy).collect()
+    let rows = rows("Damaged copies of them");
+    rows.into_iter().map(copy).collect()
 }
 
 /// A kept picture of the second file: what fetch and record answer at its
@@ -279,47 +420,55 @@ fn recorded(heading: &str, begin: Call, buffer_len: usize) -> Recorded {
     }
 }
 
-fn begin(key: &str, burst_number: u64, site_mark: &str) -> Call {
+fn begin(key: &str, burst_number: u64, camera: u32, site_mark: &str) -> Call {
     Call::Begin {
         key: run_of(key),
         burst_number,
+        camera,
         site_mark: run_of(site_mark),
     }
 }
 
 /// The list that makes the second file.
 pub fn second_list() -> Recorded {
-    assert!(says("\nBurst number 2^64 - 1, site mark E0 .. EF, and "));
-    assert!(says("\nIn a buffer of 330 bytes this list of calls makes "));
-    recorded("Recording it", begin("00 .. 0F", u64::MAX, "E0 .. EF"), 330)
+    let given = "burst number 2^64 - 1, camera number 2^32 - 1, site mark E0 .. EF";
+    assert!(says(&format!("\nEdition 2, {given}, and ")));
+    assert!(says("\nIn a buffer of 338 bytes this list of calls makes "));
+    let begin = begin("00 .. 0F", u64::MAX, u32::MAX, "E0 .. EF");
+    recorded("Recording it", begin, 338)
 }
 
 /// The list that makes the third file.
 pub fn third_list() -> Recorded {
-    assert!(says(
-        "\nBurst number 0, site mark 10 .. 1F, in a buffer of 64 bytes:"
-    ));
-    recorded("The third file", begin("00 .. 0F", 0, "10 .. 1F"), 64)
+    let given = "burst number 0, camera number 1, site mark 10 .. 1F";
+    assert!(says(&format!(
+        "\nEdition 2, {given}, in a buffer of 72 bytes:"
+    )));
+    recorded("The third file", begin("00 .. 0F", 0, 1, "10 .. 1F"), 72)
 }
 
 /// The rows of the table of begins, each with a drop and a close after it.
 pub fn begins() -> Vec<Recorded> {
-    let row = |[key, site_mark, buffer_len, number, _]: [&str; 5]| Recorded {
-        calls: vec![begin(key, 0, site_mark), Call::Drop, Call::Close],
-        answers: match decimal(number) {
-            0 => [0, 1, 64].map(Answer::accepted).to_vec(),
-            number => [number, 8, 8].map(Answer::refused).to_vec(),
-        },
-        buffer_len: decimal(buffer_len),
+    let row = |[key, site_mark, camera, buffer_len, number, _]: [&str; 6]| {
+        let begin = begin(key, 0, decimal(camera), site_mark);
+        Recorded {
+            calls: vec![begin, Call::Drop, Call::Close],
+            answers: match decimal(number) {
+                0 => [0, 1, 72].map(Answer::accepted).to_vec(),
+                number => [number, 8, 8].map(Answer::refused).to_vec(),
+            },
+            buffer_len: decimal(buffer_len),
+        }
     };
     rows("Begins").into_iter().map(row).collect()
 }
 
-/// A row of the table of fronts: a file without seals, check's number, and the
-/// last line of the listing.
+/// A row of the table of fronts: a file without seals, the first front rule
+/// that it breaks, check's number, and the last line of the listing.
 #[derive(Clone, Debug, PartialEq, Eq)]
 pub struct FrontRow {
     pub file: Vec<u8>,
+    pub rule: Option<usize>,
     pub number: u32,
     pub line: String,
     pub what: String,
@@ -340,32 +489,56 @@ fn entry_of(cell: &str) -> [u8; ENTRY_BYTES] {
     entry.to_bytes()
 }
 
-fn front_row(
-    [bytes, taken, kept, dropped, index, closing, total, entries, number, what, line]: [&str; 11],
-) -> FrontRow {
-    let header = Header {
-        edition: 1,
+/// The header of a row, from its edition on: 40 bytes where it has a camera
+/// number, whatever edition it calls itself.
+fn header_of(cells: &[&str; 9]) -> Header {
+    let [edition, taken, kept, dropped, picture, index, closing, total, camera] = cells;
+    let (layout, camera, zeros) = match camera.split_once(' ') {
+        Some((camera, zeros)) => (EDITION_2, decimal(camera), decimal(zeros)),
+        None => {
+            assert_eq!(*camera, "none");
+            (EDITION_1, 0, 0)
+        }
+    };
+    Header {
+        edition: Edition {
+            number: decimal(edition),
+            ..layout
+        },
         taken: decimal(taken),
         kept: decimal(kept),
         dropped: decimal(dropped),
         burst_number: 7,
-        picture_offset: 32,
+        picture_offset: decimal(picture),
         index_offset: decimal(index),
         closing_offset: decimal(closing),
         total: decimal(total),
+        camera,
+        zeros,
+    }
+}
+
+fn front_row(cells: [&str; 14]) -> FrontRow {
+    let (bytes, cells) = cells.split_first().unwrap();
+    let (header, cells) = cells.split_first_chunk().unwrap();
+    let [entries, rule, what, line] = cells else {
+        panic!("the columns behind the header");
     };
-    let mut file = header.to_bytes().to_vec();
+    let header = header_of(header);
+    let mut file = header.to_bytes();
     file.resize(decimal(bytes), 0);
     let mut at = header.index_offset as usize;
     for entry in entries.split(", ").filter(|entry| *entry != "none") {
         file[at..at + ENTRY_BYTES].copy_from_slice(&entry_of(entry));
         at += ENTRY_BYTES;
     }
+    let rule = (*rule != "none").then(|| decimal(rule));
     FrontRow {
         file,
-        number: decimal(number),
+        rule,
+        number: if rule.is_some() { 12 } else { 7 },
         line: line.trim_matches('`').into(),
-        what: what.into(),
+        what: what.to_string(),
     }
 }
 
@@ -375,13 +548,34 @@ pub fn fronts() -> Vec<FrontRow> {
 
 /// The vectors of sealing that are given whole: name, length of the associated
 /// data, and message.
-pub const VECTORS: [(&str, u8, &str); 5] = [
+const VECTORS: [(&str, usize, &str); 6] = [
     ("empty", 12, "none"),
     ("three bytes", 12, "66 6F 78"),
     ("130 bytes", 12, "00 .. 81"),
     ("associated data of 128 bytes", 128, "66 6F 78"),
     ("associated data of 140 bytes", 140, "66 6F 78"),
+    ("associated data of 256 bytes", 256, "66 6F 78"),
 ];
+
+/// All vectors of sealing. One is given by its tag: the rest is that of a longer
+/// message.
+pub fn vectors() -> Vec<Part> {
+    let part = |associated, message, sealed| Part {
+        nonce: counting(0x10, 16)[..].try_into().unwrap(),
+        ad: counting(0x30, associated),
+        secret: counting(0x20, 16),
+        message,
+        sealed,
+    };
+    let whole = |(name, associated, message): (&str, usize, &str)| {
+        part(associated, run_of(message), bytes(name))
+    };
+    let mut vectors = VECTORS.map(whole).to_vec();
+    let before_tag = &bytes("130 bytes")[..144];
+    let one_block = [before_tag, &bytes("tag of 128 bytes")].concat();
+    vectors.push(part(12, counting(0x00, 128), one_block));
+    vectors
+}
 
 /// Whether the text has these bytes, in hex between backquotes.
 pub fn has_bytes(bytes: &[u8]) -> bool {

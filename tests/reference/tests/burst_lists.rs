@@ -1,15 +1,15 @@
-//! Random lists of calls, with calls turned down among them: plain burst and
-//! recorder agree answer by answer and byte by byte, and the reader gives the
-//! list back.
+//! Random lists of calls, with calls turned down among them: the plain burst of
+//! edition 2 and the recorder agree answer by answer and byte by byte, and the
+//! reader gives the list back. The plain burst of edition 1 goes along.
 
 mod help;
 
 use std::collections::BTreeMap;
 
-use help::{assert_gives_back, record_call, ROOM};
+use help::{assert_gives_back, record_call, with_camera, ROOM};
 use reference::burst::layout::{seal_shot, Entry};
 use reference::burst::plain::{run, Call, PlainBurst};
-use reference::burst::{Answer, Recorder};
+use reference::burst::{Answer, Recorder, EDITION_1, EDITION_2};
 use reference::random::SplitMix64;
 
 const LISTS: usize = 2_400;
@@ -43,6 +43,10 @@ fn random_begin(generator: &mut SplitMix64) -> Call {
     Call::Begin {
         key: sixteen(generator, 12),
         burst_number: generator.next_word() >> generator.below(64),
+        camera: match generator.below(12) {
+            0 => 0,
+            _ => generator.next_word() as u32 >> generator.below(32),
+        },
         site_mark: sixteen(generator, 12),
     }
 }
@@ -102,12 +106,12 @@ fn random_list(generator: &mut SplitMix64) -> Vec<Call> {
 /// Exactly what the list needs, one byte less, or something else. What it
 /// needs is taken from a run with all the room there is.
 fn random_buffer_len(generator: &mut SplitMix64, calls: &[Call]) -> usize {
-    let need = run(calls, ROOM).burst.total();
+    let need = run(EDITION_2, calls, ROOM).burst.total();
     match generator.below(10) {
         0..3 => need,
         3..5 => need - 1,
         5 => generator.below(need + 1),
-        6 => one_of(generator, &[0, 63, 64, 65]),
+        6 => one_of(generator, &[0, 64, 71, 72, 73]),
         _ => need + generator.below(40),
     }
 }
@@ -126,7 +130,7 @@ impl Pair {
             recorder: Recorder::REFUSED,
             expected: buffer.clone(),
             buffer,
-            plain: PlainBurst::at_first(),
+            plain: PlainBurst::at_first(EDITION_2),
         }
     }
 
@@ -150,7 +154,7 @@ impl Pair {
     /// What an accepted call writes; keep's record goes to `at`.
     fn expect(&mut self, call: &Call, at: usize) {
         match call {
-            Call::Begin { .. } => self.expected[..32].fill(0),
+            Call::Begin { .. } => self.expected[..40].fill(0),
             Call::Keep { stamp, picture } => {
                 let entry = Entry {
                     shot: self.plain.taken() as u16,
@@ -160,7 +164,8 @@ impl Pair {
                 };
                 let p = &self.plain;
                 let ad: [&[u8]; 2] = [&entry.to_bytes(), &[]];
-                let record = seal_shot(&p.key, p.burst_number, entry.shot, stamp, ad, picture);
+                let (burst, shot) = (p.burst_number, entry.shot);
+                let record = seal_shot(&p.key, burst, shot, p.camera, stamp, ad, picture);
                 self.expected[at..at + record.len()].copy_from_slice(&record);
             }
             Call::Drop => {}
@@ -175,7 +180,8 @@ impl Pair {
     fn assert_same_burst(&self) {
         let (r, p) = (&self.recorder, &self.plain);
         assert_eq!((r.key, r.burst_number), (p.key, p.burst_number));
-        assert_eq!((r.site_mark, r.closed), (p.site_mark, p.closed));
+        assert_eq!((r.camera, r.site_mark), (p.camera, p.site_mark));
+        assert_eq!(r.closed, p.closed);
         let counts = [r.taken, r.kept].map(|count| count as usize);
         assert_eq!(counts, [p.taken(), p.kept()]);
         if *r != Recorder::REFUSED {
@@ -204,14 +210,42 @@ fn try_list(generator: &mut SplitMix64, calls: &[Call], parts: bool, tally: &mut
         assert_gives_back(&pair.plain, file);
     }
     if !parts {
-        assert_eq!(run(calls, length).burst, pair.plain);
+        assert_eq!(run(EDITION_2, calls, length).burst, pair.plain);
+        try_edition_1(calls, length);
+    }
+}
+
+/// On 8 bytes less the plain burst of edition 1 takes the same list for the
+/// same shots, and its file is read back too. It does not ask for a camera
+/// number, so edition 2 is given one here.
+fn try_edition_1(calls: &[Call], length: usize) {
+    let first = run(EDITION_1, calls, length.saturating_sub(8));
+    let second = run(EDITION_2, &with_camera(calls.to_vec(), 1), length);
+    for ((call, answer), expected) in calls.iter().zip(&first.answers).zip(&second.answers) {
+        let header = match (call, answer.number) {
+            (Call::Close, 0) => 8,
+            _ => 0,
+        };
+        let shot_or_total = answer.shot_or_total + header;
+        assert_eq!(answer.number, expected.number, "{call:?}");
+        assert_eq!(shot_or_total, expected.shot_or_total, "{call:?}");
+    }
+    let expected = PlainBurst {
+        edition: EDITION_1,
+        camera: 0,
+        ..second.burst
+    };
+    assert_eq!(first.burst, expected);
+    assert_eq!(first.file.is_some(), second.file.is_some());
+    if let Some(file) = first.file {
+        assert_gives_back(&first.burst, &file);
     }
 }
 
 /// Every number that a call can be answered with comes up.
 fn assert_all_seen(tally: &Tally) {
     for (call, numbers) in [
-        ("begin", &[0, 1, 3, 11][..]),
+        ("begin", &[0, 1, 3, 15, 11][..]),
         ("keep", &[0, 8, 3, 9, 10, 11]),
         ("drop", &[0, 8, 9]),
         ("close", &[0, 8, 11]),
@@ -221,7 +255,7 @@ fn assert_all_seen(tally: &Tally) {
             assert!(seen >= 20, "{call} {number} was seen {seen} times");
         }
     }
-    assert_eq!(tally.len(), 16);
+    assert_eq!(tally.len(), 17);
 }
 
 #[test]

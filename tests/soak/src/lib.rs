@@ -110,8 +110,9 @@ pub fn try_case(seed: u64, tally: &mut Tally) {
         25..28 => read_call(generator, &what),
         _ => front_call(generator, &what),
     };
-    for (call, number) in ["check", "fetch", "record", "list"].into_iter().zip(read) {
-        tally.add(call, number);
+    let names = ["check", "fetch", "record", "list", "edition"];
+    for (name, number) in names.into_iter().zip(read) {
+        tally.add(name, number);
     }
 }
 

@@ -8,14 +8,16 @@ use soak::{run, try_case};
 /// Every number of every call but 4, which takes data of 67,108,865 bytes where
 /// no strip state counts them, and close's 11, which no list can meet that has
 /// one buffer. List's 12 is the text `front 12`. Whole says of a script whether all
-/// of it was performed, and agrees of a round log whether every round does.
-const EXPECTED: [(&str, &[u32]); 19] = [
+/// of it was performed, agrees of a round log whether every round does, and edition
+/// which one a file has that check accepted, or 0.
+const EXPECTED: [(&str, &[u32]); 20] = [
     ("agrees", &[0, 1]),
-    ("begin", &[0, 1, 3, 11]),
+    ("begin", &[0, 1, 3, 11, 15]),
     ("check", &[0, 1, 5, 7, 12]),
     ("check_log", &[0, 19]),
     ("close", &[0, 8]),
     ("drop", &[0, 8, 9]),
+    ("edition", &[0, 1, 2]),
     ("end", &[0, 5, 14]),
     ("fetch", &[0, 1, 5, 7, 12, 13]),
     ("keep", &[0, 3, 8, 9, 10, 11]),

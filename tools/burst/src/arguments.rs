@@ -6,7 +6,9 @@ use crate::messages::Failure;
 use crate::secrets::parse_mark;
 use crate::show;
 use std::ffi::{OsStr, OsString};
+use std::fmt::Display;
 use std::path::PathBuf;
+use std::str::FromStr;
 
 /// What the command line asks for.
 pub enum Command {
@@ -29,6 +31,7 @@ pub enum Command {
 pub struct Record {
     pub key: Input,
     pub burst_number: u64,
+    pub camera: u32,
     pub site_mark: Vec<u8>,
     pub out: Output,
     pub force: bool,
@@ -82,6 +85,7 @@ const READERS: [Reader; 5] = [
         options: &[
             KEY,
             ("--number", &["N"]),
+            ("--camera", &["N"]),
             ("--site-mark", &["MARK"]),
             OUT,
             FORCE,
@@ -284,6 +288,13 @@ impl Given {
         }
     }
 
+    /// The number of an option that is given once, at most the largest of its type.
+    fn number<N: FromStr + Display>(&self, name: &str, largest: N) -> Result<N, Failure> {
+        let digits = self.digits(name, self.one(name)?)?;
+        let too_large = |_| self.wrong(format!("{name} {digits} is above {largest}"));
+        digits.parse().map_err(too_large)
+    }
+
     /// A stamp or site mark.
     fn mark(&self, name: &str, word: &OsStr) -> Result<Vec<u8>, Failure> {
         let text = word
@@ -307,8 +318,6 @@ fn read_record(given: Given) -> Result<Command, Failure> {
         );
         return Err(given.wrong(problem));
     }
-    let number = given.digits("--number", given.one("--number")?)?;
-    let too_large = |_| given.wrong(format!("--number {number} is above {}", u64::MAX));
     let mut shots = Vec::new();
     for (name, values) in &given.options {
         match (*name, values.as_slice()) {
@@ -328,7 +337,8 @@ fn read_record(given: Given) -> Result<Command, Failure> {
     given.test_inputs(pictures.chain([&key]))?;
     Ok(Command::Record(Record {
         key,
-        burst_number: number.parse().map_err(too_large)?,
+        burst_number: given.number("--number", u64::MAX)?,
+        camera: given.number("--camera", u32::MAX)?,
         site_mark: given.mark("--site-mark", given.one("--site-mark")?)?,
         out: Output::of(given.one("--out")?),
         force: given.flag("--force"),

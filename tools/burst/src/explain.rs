@@ -1,7 +1,7 @@
 //! The layout of a file as a picture in text. It needs no key.
 
 use crate::files::{self, Burst, Input};
-use crate::layout::{self, Entry, Field, Header, ENTRY_BYTES, FIELDS, HEADER_BYTES, SEAL_BYTES};
+use crate::layout::{self, Entry, Field, Header, ENTRY_BYTES, SEAL_BYTES};
 use crate::library::{self, MAX_FILE_BYTES};
 use crate::messages::{Failure, FRONT_EXPLAINED};
 
@@ -74,7 +74,7 @@ fn drawing(file: &[u8], header: &Header) -> String {
         ),
         offset: 0,
     };
-    boxes.part("header", HEADER_BYTES, &header_lines(header));
+    boxes.part("header", header.picture_offset, &header_lines(header));
     for (place, entry) in entries.iter().enumerate() {
         let name = format!("record of shot {}, place {place}", entry.shot);
         let parts = format!("sealed stamp 16, sealed picture {}, tag 16", entry.length);
@@ -90,9 +90,9 @@ fn drawing(file: &[u8], header: &Header) -> String {
     boxes.text
 }
 
-fn header_lines(header: &Header) -> [String; 4] {
+fn header_lines(header: &Header) -> Vec<String> {
     let h = header;
-    [
+    let mut lines = vec![
         format!("edition {}, burst {}", h.edition, h.burst_number),
         format!("taken {} kept {} dropped {}", h.taken, h.kept, h.dropped),
         format!(
@@ -103,7 +103,10 @@ fn header_lines(header: &Header) -> [String; 4] {
             "closing seal at {}, total length {}",
             h.closing_offset, h.total
         ),
-    ]
+    ];
+    let line = |camera| format!("camera {camera}, four zeros");
+    lines.extend(h.camera.map(line));
+    lines
 }
 
 fn index_line((place, entry): (usize, &Entry)) -> String {
@@ -137,7 +140,7 @@ fn broken(file: &[u8]) -> String {
     };
     let mut text = format!("front 12: a front rule is broken\nThe file has {length} bytes.");
     text += " The bytes of its header say:\n\n    offset  length  field\n";
-    for field in &FIELDS {
+    for field in layout::fields(file) {
         text += &field_line(file, field);
     }
     text += "\nBroken rules, by their numbers in docs/FORMAT.md:\n";

@@ -107,7 +107,7 @@ impl Output {
         match self {
             Output::File(_) => print(text),
             Output::Standard => {
-                let _ = io::stderr().write_all(text.as_bytes());
+                note(text);
                 Ok(())
             }
         }
@@ -123,4 +123,9 @@ fn write_out(bytes: &[u8]) -> io::Result<()> {
 /// Writes text to standard output.
 pub fn print(text: &str) -> Result<(), Failure> {
     write_out(text.as_bytes()).map_err(Failure::Print)
+}
+
+/// Writes text to standard error, or leaves it out where that cannot be.
+pub fn note(text: &str) {
+    let _ = io::stderr().write_all(text.as_bytes());
 }

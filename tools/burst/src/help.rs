@@ -4,11 +4,12 @@ pub const ALL: &str = "\
 burst: the pictures of one trigger of a trail camera, sealed in one file
 
 Commands:
-  burst record --key FILE --number N --site-mark MARK --out FILE [--force] SHOTS...
-                              seals pictures into a new burst file
+  burst record --key FILE --number N --camera N --site-mark MARK --out FILE [--force]
+      SHOTS...                seals pictures into a new burst file
   burst list FILE             shows burst number, counts and kept shots; needs no key
   burst check --key FILE FILE
-                              tests every tag; shows burst number, site mark and counts
+                              tests every tag; shows burst number, site mark, counts
+                              and camera number
   burst fetch --key FILE --place N --out PICTURE [--force] FILE
   burst fetch --key FILE --all DIRECTORY [--force] FILE
                               checks the file, then writes one picture or all of them
@@ -25,10 +26,16 @@ command has to say goes to standard error then.
 
 Keys:
   A key is read from a file, never from the command line: 16 raw bytes, or 32 hex
-  digits with or without a line end. To make one, for each camera its own:
-      (umask 077; head -c 16 /dev/urandom > camera.key)
-  Whoever can read it opens every burst of the camera, and can make others in its
-  name. Keep it readable for yourself alone: `chmod 600 camera.key`.
+  digits with or without a line end. To make one, for a camera or for a whole survey:
+      (umask 077; head -c 16 /dev/urandom > survey.key)
+  Whoever can read it opens every burst under it, and can make others in the name of
+  every camera that has it. Keep it readable for yourself alone:
+  `chmod 600 survey.key`.
+  Cameras that share a key have different camera numbers. Under one key, a pair of
+  camera number and burst number is recorded once only, whatever became of the first
+  burst: a pair used twice gives away what the pictures of both bursts have in common.
+  Files of edition 1 have no camera number: cameras that still write such files must
+  not share a key with each other.
 
 Output files:
   They are written whole or not at all, also where INT, TERM, HUP or another signal
@@ -51,6 +58,7 @@ Exit status:
   10  refused: a picture does not have 1 to 1,048,576 bytes
   12  refused: a front rule is broken; this is no whole burst file
   13  refused: there is no picture at that place
+  15  refused: the camera number is 0
   64  the command line is wrong
   65  list: the file has more than 65,536 bytes
   73  an output file exists already, or the folder of --all is not empty (see --force);
@@ -61,15 +69,18 @@ Exit status:
 ";
 
 pub const RECORD: &str = "\
-burst record --key FILE --number N --site-mark MARK --out FILE [--force] SHOTS...
+burst record --key FILE --number N --camera N --site-mark MARK --out FILE [--force]
+    SHOTS...
 
 Seals the pictures of one trigger into a new burst file.
 
   --key FILE         the camera's key: 16 raw bytes, or 32 hex digits; `burst --help`
-                     says how to make one
-  --number N         the burst number, 0 to 18446744073709551615. Under one key, use
-                     each burst number once only: a number used twice gives away what
-                     the pictures of both bursts have in common
+                     says how to make one, and which cameras may share one
+  --number N         the burst number, 0 to 18446744073709551615. A camera uses each
+                     burst number once only: one used twice gives away what the
+                     pictures of both bursts have in common
+  --camera N         the camera number, 1 to 4294967295. Cameras that share a key have
+                     different numbers; each may then count its bursts from 1
   --site-mark MARK   where the camera stands, 16 bytes
   --out FILE         the burst file to write; - is standard output
   --force            replaces the file if it exists, and keeps its rights
@@ -84,8 +95,8 @@ filled up with zero bytes. Empty text, as an unset variable of a shell gives it,
 refused with 3, and so is hex: with no digits.
 
 Example:
-  burst record --key camera.key --number 7 --site-mark 'north ridge' --out 7.burst \\
-      --drop --keep '2024-05-01 06:12' fox.jpg --drop
+  burst record --key survey.key --number 7 --camera 12 --site-mark 'north ridge' \\
+      --out 7.burst --drop --keep '2024-05-01 06:12' fox.jpg --drop
 ";
 
 pub const LIST: &str = "\
@@ -93,7 +104,9 @@ burst list FILE
 
 Shows what stands in the front of a burst file of at most 65,536 bytes: burst number,
 counts, and a line for each kept picture with shot number, record offset and picture
-length. It needs no key, and so it tests no tag: `burst check` does.
+length. It needs no key, and so it tests no tag: `burst check` does. The camera number,
+which a file of edition 1 does not have, is told on standard error, so that the list
+has the same lines for every file.
 
 It prints `front 12` (exit status 12) for a file that is no whole burst file, and
 `front too long` (exit status 65) for a longer one.
@@ -103,8 +116,8 @@ pub const CHECK: &str = "\
 burst check --key FILE FILE
 
 Tests a whole burst file: its front, its closing seal and every record. If all is
-right, it shows burst number, site mark and counts. If not, it names the refusal, and
-the exit status is its number:
+right, it shows burst number, site mark, counts and camera number; a file of edition 1
+has none. If not, it names the refusal, and the exit status is its number:
 
   1   the key is not 16 bytes
   12  a front rule is broken: this is no whole burst file
@@ -149,8 +162,9 @@ empty or PICTURE exists, without --force, or if DIRECTORY is there and is not a 
 pub const EXPLAIN: &str = "\
 burst explain FILE
 
-Draws the layout of a burst file: header, records, index and closing seal, with their
-offsets and lengths. It needs no key, and so it tests no tag: `burst check` does.
+Draws the layout of a burst file, of edition 1 or 2: header, records, index and closing
+seal, with their offsets and lengths. It needs no key, and so it tests no tag:
+`burst check` does.
 
 For a file that is no whole burst file (exit status 12) it shows what the bytes of the
 header say, as far as they are there, and which front rules they break.

@@ -3,10 +3,35 @@
 
 use crate::library::{self, MAX_FILE_BYTES, MAX_PICTURE_BYTES, MAX_SHOTS};
 
-pub const HEADER_BYTES: u64 = 32;
 pub const ENTRY_BYTES: u64 = library::ENTRY_BYTES as u64;
 pub const SEAL_BYTES: u64 = library::SEAL_BYTES as u64;
-const MIN_FILE_BYTES: u64 = library::MIN_FILE_BYTES as u64;
+const MIN_READ_BYTES: u64 = library::MIN_READ_BYTES as u64;
+
+/// An edition, and how long its header is.
+struct Edition {
+    number: u64,
+    header_bytes: u64,
+}
+
+const fn edition(number: u64, header_bytes: u64) -> Edition {
+    Edition {
+        number,
+        header_bytes,
+    }
+}
+
+const EDITIONS: [Edition; 2] = [edition(1, 32), edition(2, 40)];
+
+impl Edition {
+    fn of(number: u64) -> Option<&'static Edition> {
+        EDITIONS.iter().find(|edition| edition.number == number)
+    }
+
+    /// The shortest file: header and closing seal.
+    fn min_file_bytes(&self) -> u64 {
+        self.header_bytes + SEAL_BYTES
+    }
+}
 
 /// A field of the header.
 pub struct Field {
@@ -23,7 +48,7 @@ const fn field(offset: usize, length: usize, name: &'static str) -> Field {
     }
 }
 
-pub const FIELDS: [Field; 9] = [
+const FIELDS: [Field; 11] = [
     field(0, 2, "edition"),
     field(2, 2, "taken"),
     field(4, 2, "kept"),
@@ -33,7 +58,17 @@ pub const FIELDS: [Field; 9] = [
     field(20, 4, "index offset"),
     field(24, 4, "closing offset"),
     field(28, 4, "total length"),
+    field(32, 4, "camera number"),
+    field(36, 4, "zeros"),
 ];
+
+/// The fields that a file's header has in its edition. Every header has those
+/// of edition 1, and so has one of no edition.
+pub fn fields(file: &[u8]) -> impl Iterator<Item = &'static Field> {
+    let edition = number(file, 0, 2).and_then(Edition::of);
+    let end = edition.unwrap_or(&EDITIONS[0]).header_bytes as usize;
+    FIELDS.iter().filter(move |field| field.offset < end)
+}
 
 /// The little-endian number of some bytes, if the file has them.
 pub fn number(file: &[u8], offset: usize, length: usize) -> Option<u64> {
@@ -58,12 +93,18 @@ pub struct Header {
     pub index_offset: u64,
     pub closing_offset: u64,
     pub total: u64,
+    /// From edition 2 on, if the file has it.
+    pub camera: Option<u64>,
+    zeros: Option<u64>,
 }
 
 impl Header {
-    /// The header of a file, if the file has all of it.
+    /// The header of a file, if the file has all of it that edition 1 has.
     pub fn of(file: &[u8]) -> Option<Self> {
-        let value = |at: usize| number(file, FIELDS[at].offset, FIELDS[at].length);
+        let value = |at| {
+            let field = fields(file).nth(at)?;
+            number(file, field.offset, field.length)
+        };
         Some(Header {
             edition: value(0)?,
             taken: value(1)?,
@@ -74,6 +115,8 @@ impl Header {
             index_offset: value(6)?,
             closing_offset: value(7)?,
             total: value(8)?,
+            camera: value(9),
+            zeros: value(10),
         })
     }
 }
@@ -115,13 +158,14 @@ pub type Broken = (u8, String);
 pub fn broken_rules(file: &[u8]) -> Vec<Broken> {
     let length = file.len() as u64;
     let mut broken = Vec::new();
-    if length < MIN_FILE_BYTES {
+    if length < MIN_READ_BYTES {
         broken.push((
             1,
-            format!("a burst file has at least {MIN_FILE_BYTES} bytes"),
+            format!("a burst file has at least {MIN_READ_BYTES} bytes"),
         ));
     }
     if let Some(header) = Header::of(file) {
+        broken.extend(broken_edition(&header, length));
         broken.extend(broken_header(&header, length));
         if broken.is_empty() {
             broken.extend(broken_index(&header, &entries(file, &header)));
@@ -136,10 +180,33 @@ fn unlike(rule: u8, name: &str, value: u64, wanted: u64, why: &str) -> Option<Br
     (value != wanted).then(|| (rule, words()))
 }
 
+/// The rules of the edition that are broken.
+fn broken_edition(header: &Header, length: u64) -> Vec<Broken> {
+    let Some(edition) = Edition::of(header.edition) else {
+        let words = format!("edition is {}, and must be 1 or 2", header.edition);
+        return vec![(2, words)];
+    };
+    let (offset, number) = (header.picture_offset, edition.number);
+    let min = edition.min_file_bytes();
+    let short = format!("a file of edition {number} has at least {min} bytes");
+    let no_camera = "camera number is 0, and must be 1 or more".into();
+    let not_zero = |n| format!("the four bytes 36 to 39 are {n}, and must be 0");
+    let why = format!(" in edition {number}");
+    let rules = [
+        // Rule 1 says as much of edition 1.
+        (min > MIN_READ_BYTES && length < min).then_some((2, short)),
+        unlike(3, "picture offset", offset, edition.header_bytes, &why),
+        (header.camera == Some(0)).then_some((4, no_camera)),
+        header.zeros.filter(|n| *n != 0).map(|n| (4, not_zero(n))),
+    ];
+    rules.into_iter().flatten().collect()
+}
+
+/// The rules of counts, offsets and the file's length that are broken.
 fn broken_header(header: &Header, length: u64) -> impl Iterator<Item = Broken> {
     let h = header;
     let taken = h.taken;
-    let too_many = (3, format!("taken is {taken}, and is at most {MAX_SHOTS}"));
+    let too_many = (5, format!("taken is {taken}, and is at most {MAX_SHOTS}"));
     let sum = h.kept + h.dropped;
     let index_end = h.index_offset + ENTRY_BYTES * h.kept;
     let closing = h.closing_offset;
@@ -150,26 +217,24 @@ fn broken_header(header: &Header, length: u64) -> impl Iterator<Item = Broken> {
         false => ", the file's length",
     };
     let rules = [
-        unlike(2, "edition", h.edition, 1, ""),
-        unlike(2, "picture offset", h.picture_offset, HEADER_BYTES, ""),
         (taken > MAX_SHOTS as u64).then_some(too_many),
-        unlike(3, "taken", taken, sum, ", kept and dropped together"),
-        unlike(4, "closing offset", closing, index_end, ", the index's end"),
+        unlike(5, "taken", taken, sum, ", kept and dropped together"),
+        unlike(6, "closing offset", closing, index_end, ", the index's end"),
         unlike(
-            5,
+            7,
             "total length",
             h.total,
             seal_end,
             ", the closing seal's end",
         ),
-        unlike(5, "total length", h.total, length, file_length),
+        unlike(7, "total length", h.total, length, file_length),
     ];
     rules.into_iter().flatten()
 }
 
 /// The first index rule that is broken.
 fn broken_index(header: &Header, entries: &[Entry]) -> Option<Broken> {
-    let (mut shot_before, mut end) = (0, HEADER_BYTES);
+    let (mut shot_before, mut end) = (0, header.picture_offset);
     for (place, entry) in entries.iter().enumerate() {
         let broken = broken_entry(entry, shot_before, header.taken, end);
         if let Some((number, words)) = broken {
@@ -178,19 +243,19 @@ fn broken_index(header: &Header, entries: &[Entry]) -> Option<Broken> {
         (shot_before, end) = (entry.shot, entry.end());
     }
     let index = header.index_offset;
-    unlike(8, "index offset", index, end, ", the records' end")
+    unlike(10, "index offset", index, end, ", the records' end")
 }
 
 fn broken_entry(entry: &Entry, shot_before: u64, taken: u64, offset: u64) -> Option<Broken> {
     let shot = entry.shot;
     if shot <= shot_before || shot > taken {
         let words = format!("shot {shot} after shot {shot_before}, with {taken} shots taken");
-        return Some((6, words));
+        return Some((8, words));
     }
     let length = entry.length;
     if length < 1 || length > MAX_PICTURE_BYTES as u64 {
-        return Some((7, format!("the picture length is {length}")));
+        return Some((9, format!("the picture length is {length}")));
     }
-    let zero = unlike(7, "the zero field", entry.zero, 0, "");
-    zero.or_else(|| unlike(8, "the record offset", entry.offset, offset, ""))
+    let zero = unlike(9, "the zero field", entry.zero, 0, "");
+    zero.or_else(|| unlike(10, "the record offset", entry.offset, offset, ""))
 }

@@ -1,9 +1,10 @@
 //! The calls of include/burst.h, with their answers taken apart.
 
 use proved_calls::burst::{self, CHECK_INFO_BYTES, FETCH_INFO_BYTES, LIST_BYTES};
-pub use proved_calls::burst::{ANSWER_BYTES, MAX_PICTURE_BYTES, MAX_SHOTS, MIN_FILE_BYTES};
+pub use proved_calls::burst::{ANSWER_BYTES, MAX_PICTURE_BYTES, MAX_SHOTS};
 pub use proved_calls::burst::{CALL_CLOSE, CALL_DROP, CALL_KEEP};
 pub use proved_calls::burst::{KEY_BYTES, SITE_MARK_BYTES, STAMP_BYTES};
+pub use proved_calls::burst::{MIN_READ_BYTES, MIN_WRITTEN_BYTES};
 
 /// An index entry.
 pub const ENTRY_BYTES: usize = 12;
@@ -12,7 +13,7 @@ pub const ENTRY_BYTES: usize = 12;
 pub const SEAL_BYTES: usize = 32;
 /// A record and an index entry for each shot.
 pub const MAX_FILE_BYTES: usize =
-    MIN_FILE_BYTES + MAX_SHOTS * (MAX_PICTURE_BYTES + SEAL_BYTES + ENTRY_BYTES);
+    MIN_WRITTEN_BYTES + MAX_SHOTS * (MAX_PICTURE_BYTES + SEAL_BYTES + ENTRY_BYTES);
 
 /// A refusal's number; the mark says which tag differs under 7.
 pub struct Refused {
@@ -20,13 +21,14 @@ pub struct Refused {
     pub mark: u32,
 }
 
-/// What check says of an accepted file.
+/// What check says of an accepted file. Camera number 0 is that of edition 1.
 pub struct Checked {
     pub burst_number: u64,
     pub site_mark: [u8; SITE_MARK_BYTES],
     pub taken: u16,
     pub kept: u16,
     pub dropped: u16,
+    pub camera: u32,
 }
 
 /// What fetch says of a picture.
@@ -47,19 +49,32 @@ fn number_u16(bytes: &[u8], at: usize) -> u16 {
     u16::from_le_bytes(part(bytes, at))
 }
 
+fn number_u32(bytes: &[u8], at: usize) -> u32 {
+    u32::from_le_bytes(part(bytes, at))
+}
+
 /// Begin and the calls of a script on a buffer: the count of answers written,
 /// and whether the whole script was performed.
 pub fn replay(
     key: &[u8],
     burst_number: u64,
+    camera: u32,
     site_mark: &[u8],
     script: &[u8],
     buffer: &mut [u8],
     answers: &mut [u8],
 ) -> (usize, bool) {
     let mut whole = 0;
-    let lent = &mut whole;
-    let count = burst::replay(key, burst_number, site_mark, script, buffer, answers, lent);
+    let count = burst::replay(
+        key,
+        burst_number,
+        camera,
+        site_mark,
+        script,
+        buffer,
+        answers,
+        &mut whole,
+    );
     (count, whole == 1)
 }
 
@@ -77,6 +92,7 @@ pub fn check(key: &[u8], file: &[u8]) -> Result<Checked, Refused> {
         taken: number_u16(&info, 24),
         kept: number_u16(&info, 26),
         dropped: number_u16(&info, 28),
+        camera: number_u32(&info, 30),
     })
 }
 
@@ -90,7 +106,7 @@ pub fn fetch(key: &[u8], file: &[u8], place: usize, out: &mut [u8]) -> Result<Fe
     }
     Ok(Fetched {
         shot: number_u16(&info, 0),
-        length: u32::from_le_bytes(part(&info, 2)) as usize,
+        length: number_u32(&info, 2) as usize,
         stamp: part(&info, 6),
     })
 }

@@ -181,6 +181,7 @@ fn words(number: u32) -> &'static str {
         11 => "the file buffer is too short",
         12 => "a front rule is broken",
         13 => "there is no such place",
+        15 => "the camera number is 0",
         _ => "a number that burst.h does not name",
     }
 }
@@ -211,6 +212,10 @@ fn advice(number: u32) -> &'static str {
              again; `burst explain FILE` shows what its header says."
         }
         13 => "Places count kept pictures from 0; they are not shot numbers. `burst explain FILE` shows both.",
+        15 => {
+            "Give the camera's own number, 1 to 4294967295. Cameras that share a key have different \
+             numbers."
+        }
         _ => "This is a fault of the tool. Please report it, with the command that you gave.",
     }
 }

@@ -2,6 +2,7 @@
 
 use crate::arguments::{Fetch, PlaceTyped, Wanted};
 use crate::files::{self, Burst, Input, Output};
+use crate::layout::Header;
 use crate::library::{self, Checked, Fetched, Refused, MAX_PICTURE_BYTES};
 use crate::messages::{Failure, RECORD_CHANGED};
 use crate::outputs::Folder;
@@ -29,7 +30,8 @@ fn refused(file: &str, refused: Refused) -> Failure {
     }
 }
 
-/// `burst list`: what the lister prints, and a refusal where it prints one.
+/// `burst list`: what the lister prints, and a refusal where it prints one. The
+/// camera number is no part of the lister's lines, and so goes to standard error.
 pub fn list(file: &Input) -> Result<(), Failure> {
     let Burst { name, bytes } = files::read_burst(file)?;
     let text = library::list(&bytes).map_err(|found| refused(&name, found))?;
@@ -37,7 +39,13 @@ pub fn list(file: &Input) -> Result<(), Failure> {
     match text.as_slice() {
         b"front too long\n" => Err(Failure::TooLong),
         b"front 12\n" => Err(Failure::refused(FRONT_BROKEN, name)),
-        _ => Ok(()),
+        _ => {
+            let camera = Header::of(&bytes).and_then(|header| header.camera);
+            if let Some(camera) = camera {
+                files::note(&format!("camera {camera}\n"));
+            }
+            Ok(())
+        }
     }
 }
 
@@ -76,8 +84,13 @@ pub fn check(key: &Input, file: &Input) -> Result<(), Failure> {
         ..
     } = checked;
     let mark = show_mark(&checked.site_mark);
+    let camera = match checked.camera {
+        0 => "none: the file is of edition 1".into(),
+        number => number.to_string(),
+    };
     files::print(&format!(
-        "burst {burst_number}\nsite mark {mark}\ntaken {taken} kept {kept} dropped {dropped}\n"
+        "burst {burst_number}\nsite mark {mark}\ntaken {taken} kept {kept} dropped {dropped}\n\
+         camera {camera}\n"
     ))
 }
 

@@ -4,7 +4,7 @@
 use crate::arguments::{Record, Shot};
 use crate::library::{self, ANSWER_BYTES, MAX_PICTURE_BYTES, MAX_SHOTS};
 use crate::library::{CALL_CLOSE, CALL_DROP, CALL_KEEP};
-use crate::library::{ENTRY_BYTES, MIN_FILE_BYTES, SEAL_BYTES};
+use crate::library::{ENTRY_BYTES, MIN_WRITTEN_BYTES, SEAL_BYTES};
 use crate::messages::Failure;
 use crate::progress::{megabytes, Progress};
 use crate::secrets;
@@ -26,7 +26,7 @@ fn script_of(shots: &[Shot]) -> Result<Script, Failure> {
     let mut script = Script {
         bytes: Vec::new(),
         calls: 0,
-        file_bytes: MIN_FILE_BYTES,
+        file_bytes: MIN_WRITTEN_BYTES,
     };
     for shot in shots.iter().take(MAX_SHOTS + 1) {
         match shot {
@@ -63,6 +63,7 @@ fn about(wanted: &Record, call: usize, number: u32) -> String {
     if call == 0 {
         return match number {
             1 => wanted.key.name(),
+            15 => format!("--camera {}", wanted.camera),
             _ => format!("the site mark has {}", wanted.site_mark.len()),
         };
     }
@@ -104,9 +105,15 @@ fn seal(wanted: &Record, key: &[u8], script: &Script) -> Result<Vec<u8>, Failure
     let mut answers = vec![0; ANSWER_BYTES * (1 + script.calls)];
     let progress = Progress::new(script.bytes.len());
     progress.say(&format!("sealing {}", megabytes(script.bytes.len())));
-    let mark = &wanted.site_mark;
-    let number = wanted.burst_number;
-    let performed = library::replay(key, number, mark, &script.bytes, &mut buffer, &mut answers);
+    let performed = library::replay(
+        key,
+        wanted.burst_number,
+        wanted.camera,
+        &wanted.site_mark,
+        &script.bytes,
+        &mut buffer,
+        &mut answers,
+    );
     assert_eq!(
         performed,
         (1 + script.calls, true),
@@ -131,8 +138,9 @@ pub fn record(wanted: &Record) -> Result<(), Failure> {
         .filter(|shot| matches!(shot, Shot::Keep { .. }))
         .count();
     wanted.out.report(&format!(
-        "burst {} taken {taken} kept {kept} dropped {} to {}, {} bytes\n",
+        "burst {} camera {} taken {taken} kept {kept} dropped {} to {}, {} bytes\n",
         wanted.burst_number,
+        wanted.camera,
         taken - kept,
         wanted.out.name(),
         file.len()

@@ -10,8 +10,11 @@ pub const SITE_MARK_BYTES: usize = 16;
 pub const STAMP_BYTES: usize = 16;
 pub const MAX_PICTURE_BYTES: usize = 1_048_576;
 pub const MAX_SHOTS: usize = 60;
-pub const MIN_FILE_BYTES: usize = 64;
-pub const CHECK_INFO_BYTES: usize = 30;
+/// The shortest file that is written, of edition 2.
+pub const MIN_WRITTEN_BYTES: usize = 72;
+/// The shortest file that is read, of edition 1.
+pub const MIN_READ_BYTES: usize = 64;
+pub const CHECK_INFO_BYTES: usize = 34;
 pub const FETCH_INFO_BYTES: usize = 22;
 /// Room for every text of `list`.
 pub const LIST_BYTES: usize = 4_800;
@@ -23,6 +26,7 @@ extern "C" {
         key: *const u8,
         key_len: usize,
         burst_number: u64,
+        camera: u32,
         site_mark: *const u8,
         site_mark_len: usize,
         script: *const u8,
@@ -81,6 +85,7 @@ extern "C" {
 pub fn replay(
     key: &[u8],
     burst_number: u64,
+    camera: u32,
     site_mark: &[u8],
     script: &[u8],
     buffer: &mut [u8],
@@ -94,6 +99,7 @@ pub fn replay(
             key.as_ptr(),
             key.len(),
             burst_number,
+            camera,
             site_mark.as_ptr(),
             site_mark.len(),
             script.as_ptr(),

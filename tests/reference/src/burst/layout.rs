@@ -1,22 +1,46 @@
-//! The layout of a burst file: its sizes, header, index entries and seals (the
-//! scope paper, "The burst file").
+//! The layout of a burst file: its editions, sizes, header, index entries and
+//! seals (the scope paper, "The burst file", and request N1).
 
 use crate::sealing::{open, seal, Variant};
 
-/// The edition that the header names.
-pub const EDITION: u16 = 1;
+/// What one edition of the file has of its own.
+#[derive(Clone, Copy, Debug, PartialEq, Eq)]
+pub struct Edition {
+    pub number: u16,
+    /// The header; the records follow it, so this is also the picture offset.
+    pub header_bytes: usize,
+    /// Whether header and nonce hold a camera number, which is then not 0.
+    pub has_camera: bool,
+}
 
-/// The header; the records follow it, so this is also the picture offset.
-pub const HEADER_BYTES: usize = 32;
+pub const EDITION_1: Edition = Edition {
+    number: 1,
+    header_bytes: 32,
+    has_camera: false,
+};
+
+/// The edition that the recorder writes.
+pub const EDITION_2: Edition = Edition {
+    number: 2,
+    header_bytes: 40,
+    has_camera: true,
+};
+
+/// The editions that the reader takes.
+pub const EDITIONS: [Edition; 2] = [EDITION_1, EDITION_2];
+
+impl Edition {
+    /// The shortest file: header and closing seal.
+    pub const fn least_file_bytes(&self) -> usize {
+        self.header_bytes + SEAL_BYTES
+    }
+}
 
 /// One index entry.
 pub const ENTRY_BYTES: usize = 12;
 
 /// What a sealed message is longer than its message; the whole closing seal.
 pub const SEAL_BYTES: usize = 32;
-
-/// The shortest file: header and closing seal.
-pub const LEAST_FILE_BYTES: usize = 64;
 
 /// The most shots of a burst.
 pub const MOST_SHOTS: usize = 60;
@@ -49,10 +73,11 @@ fn number_of_8(bytes: &[u8], at: usize) -> u64 {
     u64::from_le_bytes(front_bytes(&bytes[at..]))
 }
 
-/// The header of counts and offsets.
+/// The header of counts and offsets. In an edition without camera number,
+/// `camera` and the zeros after it are not in the header.
 #[derive(Clone, Copy, Debug, PartialEq, Eq)]
 pub struct Header {
-    pub edition: u16,
+    pub edition: Edition,
     pub taken: u16,
     pub kept: u16,
     pub dropped: u16,
@@ -61,12 +86,15 @@ pub struct Header {
     pub index_offset: u32,
     pub closing_offset: u32,
     pub total: u32,
+    pub camera: u32,
+    pub zeros: u32,
 }
 
 impl Header {
-    pub fn to_bytes(&self) -> [u8; HEADER_BYTES] {
-        let mut bytes = [0; HEADER_BYTES];
-        bytes[0..2].copy_from_slice(&self.edition.to_le_bytes());
+    /// The 32 or 40 bytes that the edition has.
+    pub fn to_bytes(&self) -> Vec<u8> {
+        let mut bytes = vec![0; self.edition.header_bytes];
+        bytes[0..2].copy_from_slice(&self.edition.number.to_le_bytes());
         bytes[2..4].copy_from_slice(&self.taken.to_le_bytes());
         bytes[4..6].copy_from_slice(&self.kept.to_le_bytes());
         bytes[6..8].copy_from_slice(&self.dropped.to_le_bytes());
@@ -75,13 +103,26 @@ impl Header {
         bytes[20..24].copy_from_slice(&self.index_offset.to_le_bytes());
         bytes[24..28].copy_from_slice(&self.closing_offset.to_le_bytes());
         bytes[28..32].copy_from_slice(&self.total.to_le_bytes());
+        if self.edition.has_camera {
+            bytes[32..36].copy_from_slice(&self.camera.to_le_bytes());
+            bytes[36..40].copy_from_slice(&self.zeros.to_le_bytes());
+        }
         bytes
     }
 
-    /// The header at the front of at least 32 bytes.
-    pub fn from_bytes(bytes: &[u8]) -> Self {
+    /// The header at the front of at least as many bytes as an edition's header
+    /// has; the number is the one that stands there. `camera` and `zeros` are 0
+    /// where the edition has none.
+    pub fn from_bytes(edition: Edition, bytes: &[u8]) -> Self {
+        let (camera, zeros) = match edition.has_camera {
+            true => (number_of_4(bytes, 32), number_of_4(bytes, 36)),
+            false => (0, 0),
+        };
         Header {
-            edition: number_of_2(bytes, 0),
+            edition: Edition {
+                number: number_of_2(bytes, 0),
+                ..edition
+            },
             taken: number_of_2(bytes, 2),
             kept: number_of_2(bytes, 4),
             dropped: number_of_2(bytes, 6),
@@ -90,7 +131,18 @@ impl Header {
             index_offset: number_of_4(bytes, 20),
             closing_offset: number_of_4(bytes, 24),
             total: number_of_4(bytes, 28),
+            camera,
+            zeros,
         }
+    }
+
+    /// The header of a file, if its edition number is one of ours and it is as
+    /// long as the shortest file of that edition.
+    pub fn from_file(file: &[u8]) -> Option<Self> {
+        let number = number_of_2(file.get(..2)?, 0);
+        let edition = EDITIONS.into_iter().find(|row| row.number == number)?;
+        let is_whole = file.len() >= edition.least_file_bytes();
+        is_whole.then(|| Header::from_bytes(edition, file))
     }
 }
 
@@ -144,10 +196,11 @@ impl Entry {
 
 /// Where the records end, if the entries obey the index rules: shot numbers
 /// rise strictly within 1 to taken, zeros are zero, lengths are in range, and
-/// records touch, from 32. Without entries they end at 32.
-pub fn records_end(entries: &[Entry], taken: u64) -> Option<u64> {
+/// records touch, from the edition's picture offset. Without entries they end
+/// there.
+pub fn records_end(edition: Edition, entries: &[Entry], taken: u64) -> Option<u64> {
     let mut last_shot = 0;
-    let mut end = HEADER_BYTES as u64;
+    let mut end = edition.header_bytes as u64;
     for entry in entries {
         let rises = last_shot < entry.shot && u64::from(entry.shot) <= taken;
         if !rises || !entry.is_in_range() || u64::from(entry.offset) != end {
@@ -159,11 +212,13 @@ pub fn records_end(entries: &[Entry], taken: u64) -> Option<u64> {
     Some(end)
 }
 
-/// Burst number, shot number, six zeros. The closing seal has shot number 0.
-pub fn nonce(burst_number: u64, shot: u16) -> [u8; 16] {
+/// Burst number, shot number, camera number, two zeros. The closing seal has
+/// shot number 0, edition 1 has camera number 0.
+pub fn nonce(burst_number: u64, shot: u16, camera: u32) -> [u8; 16] {
     let mut nonce = [0; 16];
     nonce[..8].copy_from_slice(&burst_number.to_le_bytes());
     nonce[8..10].copy_from_slice(&shot.to_le_bytes());
+    nonce[10..14].copy_from_slice(&camera.to_le_bytes());
     nonce
 }
 
@@ -173,11 +228,12 @@ pub fn seal_shot(
     key: &[u8],
     burst_number: u64,
     shot: u16,
+    camera: u32,
     secret: &[u8],
     ad: [&[u8]; 2],
     msg: &[u8],
 ) -> Vec<u8> {
-    let nonce = nonce(burst_number, shot);
+    let nonce = nonce(burst_number, shot, camera);
     let length = msg.len() + SEAL_BYTES;
     let sealed = seal(
         Variant::Icepole128,
@@ -198,10 +254,11 @@ pub fn open_shot(
     key: &[u8],
     burst_number: u64,
     shot: u16,
+    camera: u32,
     ad: [&[u8]; 2],
     sealed: &[u8],
 ) -> Option<(Vec<u8>, [u8; STAMP_BYTES])> {
-    let nonce = nonce(burst_number, shot);
+    let nonce = nonce(burst_number, shot, camera);
     let length = sealed.len() - SEAL_BYTES;
     let opened = open(
         Variant::Icepole128,

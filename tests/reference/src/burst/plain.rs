@@ -1,10 +1,11 @@
-//! The plain burst of a list of calls (the scope paper, "Recorder"): worked
-//! out from the calls' arguments and the buffer's length alone. It has no
-//! buffer, no entries and no running counts, and lays out its file by itself.
+//! The plain burst of a list of calls (the scope paper, "Recorder", and request
+//! N1): worked out from the calls' arguments and the buffer's length alone, in
+//! a given edition. It has no buffer, no entries and no running counts, and
+//! lays out its file by itself.
 
 use super::layout::{
-    EDITION, ENTRY_BYTES, HEADER_BYTES, KEY_BYTES, LEAST_FILE_BYTES, LONGEST_PICTURE, MOST_SHOTS,
-    SEAL_BYTES, SHORTEST_PICTURE, STAMP_BYTES,
+    Edition, ENTRY_BYTES, KEY_BYTES, LONGEST_PICTURE, MOST_SHOTS, SEAL_BYTES, SHORTEST_PICTURE,
+    STAMP_BYTES,
 };
 use super::Answer;
 use crate::sealing::{seal, Variant};
@@ -15,6 +16,7 @@ pub enum Call {
     Begin {
         key: Vec<u8>,
         burst_number: u64,
+        camera: u32,
         site_mark: Vec<u8>,
     },
     Keep {
@@ -28,10 +30,13 @@ pub enum Call {
 /// A kept picture with its stamp, or a gap.
 pub type PlainShot = Option<([u8; STAMP_BYTES], Vec<u8>)>;
 
+/// In an edition without camera number, `camera` is 0 whatever begin was given.
 #[derive(Clone, Debug, PartialEq, Eq)]
 pub struct PlainBurst {
+    pub edition: Edition,
     pub key: [u8; KEY_BYTES],
     pub burst_number: u64,
+    pub camera: u32,
     pub site_mark: [u8; STAMP_BYTES],
     pub shots: Vec<PlainShot>,
     pub closed: bool,
@@ -45,10 +50,12 @@ fn first(conditions: &[(u32, bool)]) -> u32 {
 
 impl PlainBurst {
     /// Before any call: closed.
-    pub fn at_first() -> Self {
+    pub fn at_first(edition: Edition) -> Self {
         PlainBurst {
+            edition,
             key: [0; KEY_BYTES],
             burst_number: 0,
+            camera: 0,
             site_mark: [0; STAMP_BYTES],
             shots: Vec::new(),
             closed: true,
@@ -72,10 +79,10 @@ impl PlainBurst {
         self.shots.iter().filter(|shot| shot.is_none()).count()
     }
 
-    /// 32, plus length + 32 for each picture.
+    /// The picture offset, plus length + 32 for each picture.
     pub fn used(&self) -> usize {
         let record_bytes = |(_, picture): &(_, Vec<u8>)| picture.len() + SEAL_BYTES;
-        HEADER_BYTES + self.pictures().map(record_bytes).sum::<usize>()
+        self.edition.header_bytes + self.pictures().map(record_bytes).sum::<usize>()
     }
 
     /// Used + 12 kept + 32.
@@ -93,10 +100,16 @@ impl PlainBurst {
     fn number(&self, call: &Call, buffer_len: usize) -> u32 {
         let full = self.taken() >= MOST_SHOTS;
         match call {
-            Call::Begin { key, site_mark, .. } => first(&[
+            Call::Begin {
+                key,
+                camera,
+                site_mark,
+                ..
+            } => first(&[
                 (1, key.len() != KEY_BYTES),
                 (3, site_mark.len() != STAMP_BYTES),
-                (11, buffer_len < LEAST_FILE_BYTES),
+                (15, self.edition.has_camera && *camera == 0),
+                (11, buffer_len < self.edition.least_file_bytes()),
             ]),
             Call::Keep { stamp, picture } => first(&[
                 (8, self.closed),
@@ -117,11 +130,14 @@ impl PlainBurst {
             Call::Begin {
                 key,
                 burst_number,
+                camera,
                 site_mark,
             } => {
                 *self = PlainBurst {
+                    edition: self.edition,
                     key: key[..].try_into().unwrap(),
                     burst_number: *burst_number,
+                    camera: if self.edition.has_camera { *camera } else { 0 },
                     site_mark: site_mark[..].try_into().unwrap(),
                     shots: Vec::new(),
                     closed: false,
@@ -155,7 +171,8 @@ impl PlainBurst {
     fn sealed(&self, shot: usize, secret: &[u8], ad: &[u8], msg: &[u8]) -> Vec<u8> {
         let mut nonce = self.burst_number.to_le_bytes().to_vec();
         nonce.extend((shot as u16).to_le_bytes());
-        nonce.extend([0; 6]);
+        nonce.extend(self.camera.to_le_bytes());
+        nonce.extend([0; 2]);
         let length = msg.len() + SEAL_BYTES;
         let variant = Variant::Icepole128;
         seal(variant, &self.key, &nonce, secret, ad, &[], msg, length).unwrap()
@@ -174,14 +191,19 @@ impl PlainBurst {
     }
 
     fn header(&self) -> Vec<u8> {
-        let mut header = Vec::new();
-        for count in [EDITION as usize, self.taken(), self.kept(), self.dropped()] {
+        let mut header = self.edition.number.to_le_bytes().to_vec();
+        for count in [self.taken(), self.kept(), self.dropped()] {
             header.extend((count as u16).to_le_bytes());
         }
         header.extend(self.burst_number.to_le_bytes());
         let closing = self.total() - SEAL_BYTES;
-        for offset in [HEADER_BYTES, self.used(), closing, self.total()] {
+        let pictures = self.edition.header_bytes;
+        for offset in [pictures, self.used(), closing, self.total()] {
             header.extend((offset as u32).to_le_bytes());
+        }
+        if self.edition.has_camera {
+            header.extend(self.camera.to_le_bytes());
+            header.extend([0; 4]);
         }
         header
     }
@@ -192,7 +214,8 @@ impl PlainBurst {
             if let Some((stamp, picture)) = shot {
                 let mut entry = (before as u16 + 1).to_le_bytes().to_vec();
                 entry.extend([0; 2]);
-                entry.extend(((HEADER_BYTES + records.len()) as u32).to_le_bytes());
+                let offset = self.edition.header_bytes + records.len();
+                entry.extend((offset as u32).to_le_bytes());
                 entry.extend((picture.len() as u32).to_le_bytes());
                 records.extend(self.sealed(before + 1, stamp, &entry, picture));
                 index.extend(entry);
@@ -211,11 +234,12 @@ pub struct Outcome {
     pub file: Option<Vec<u8>>,
 }
 
-/// Runs a list on one buffer. A list has exactly one begin, at its front.
-pub fn run(calls: &[Call], buffer_len: usize) -> Outcome {
+/// Runs a list on one buffer, as a burst of this edition. A list has exactly
+/// one begin, at its front.
+pub fn run(edition: Edition, calls: &[Call], buffer_len: usize) -> Outcome {
     let is_begin = |call: &Call| matches!(call, Call::Begin { .. });
     assert!(is_begin(&calls[0]) && !calls[1..].iter().any(is_begin));
-    let mut burst = PlainBurst::at_first();
+    let mut burst = PlainBurst::at_first(edition);
     let answer = |call| burst.answer(call, buffer_len);
     let answers: Vec<Answer> = calls.iter().map(answer).collect();
     let begun = answers[0].number == 0;

@@ -1,9 +1,8 @@
 //! The reader (the scope paper, "The burst file" for the front rules, "Reader"
-//! and "Turned down, by example" for the calls).
+//! and "Turned down, by example" for the calls; request N1 for edition 2).
 
 use super::layout::{
-    open_shot, records_end, EDITION, ENTRY_BYTES, HEADER_BYTES, KEY_BYTES, LEAST_FILE_BYTES,
-    MOST_SHOTS, SEAL_BYTES, STAMP_BYTES,
+    open_shot, records_end, ENTRY_BYTES, KEY_BYTES, MOST_SHOTS, SEAL_BYTES, STAMP_BYTES,
 };
 use super::{Entry, Header, Refusal};
 
@@ -14,10 +13,11 @@ pub struct Front {
     pub entries: Vec<Entry>,
 }
 
-/// What an accepted check returns.
+/// What an accepted check returns; camera number 0 for edition 1.
 #[derive(Clone, Copy, Debug, PartialEq, Eq)]
 pub struct Checked {
     pub burst_number: u64,
+    pub camera: u32,
     pub site_mark: [u8; STAMP_BYTES],
     pub taken: u64,
     pub kept: u64,
@@ -43,13 +43,18 @@ pub struct RecordPart {
     pub length: usize,
 }
 
+/// The front rules that speak of what editions with a camera number have more.
+fn camera_is_right(header: &Header) -> bool {
+    !header.edition.has_camera || (header.camera != 0 && header.zeros == 0)
+}
+
 /// The front rules that speak of the header. No sum wraps here.
 fn header_is_right(header: &Header, file_len: usize) -> bool {
     let [taken, kept, dropped] = [header.taken, header.kept, header.dropped].map(u64::from);
     let [index, closing, total] =
         [header.index_offset, header.closing_offset, header.total].map(u64::from);
-    header.edition == EDITION
-        && header.picture_offset == HEADER_BYTES as u32
+    header.picture_offset == header.edition.header_bytes as u32
+        && camera_is_right(header)
         && taken <= MOST_SHOTS as u64
         && taken == kept + dropped
         && closing == index + ENTRY_BYTES as u64 * kept
@@ -59,17 +64,14 @@ fn header_is_right(header: &Header, file_len: usize) -> bool {
 
 /// The front of a file, without a key: 12 when any front rule is broken.
 pub fn front(file: &[u8]) -> Result<Front, u32> {
-    if file.len() < LEAST_FILE_BYTES {
-        return Err(12);
-    }
-    let header = Header::from_bytes(file);
+    let header = Header::from_file(file).ok_or(12u32)?;
     if !header_is_right(&header, file.len()) {
         return Err(12);
     }
     let index = &file[header.index_offset as usize..header.closing_offset as usize];
     let entries = index.chunks_exact(ENTRY_BYTES);
     let entries: Vec<Entry> = entries.map(Entry::from_bytes).collect();
-    let end = records_end(&entries, u64::from(header.taken));
+    let end = records_end(header.edition, &entries, u64::from(header.taken));
     if end != Some(u64::from(header.index_offset)) {
         return Err(12);
     }
@@ -77,21 +79,37 @@ pub fn front(file: &[u8]) -> Result<Front, u32> {
 }
 
 impl Front {
-    /// The site mark under the closing seal: its associated data is header
-    /// then index. Refused with 7, its mark is 0.
+    /// What one seal holds. Refused with 7, the mark is its shot number.
+    fn open(
+        &self,
+        key: &[u8],
+        shot: u16,
+        ad: [&[u8]; 2],
+        sealed: &[u8],
+    ) -> Result<(Vec<u8>, [u8; STAMP_BYTES]), Refusal> {
+        let Header {
+            burst_number,
+            camera,
+            ..
+        } = self.header;
+        let opened = open_shot(key, burst_number, shot, camera, ad, sealed);
+        opened.ok_or(Refusal {
+            number: 7,
+            mark: u32::from(shot),
+        })
+    }
+
+    /// The site mark under the closing seal, which has shot number 0: its
+    /// associated data is header then index.
     fn open_closing(&self, key: &[u8], file: &[u8]) -> Result<[u8; STAMP_BYTES], Refusal> {
         let closing = self.header.closing_offset as usize;
         let index = &file[self.header.index_offset as usize..closing];
-        let ad = [&file[..HEADER_BYTES], index];
-        let opened = open_shot(key, self.header.burst_number, 0, ad, &file[closing..]);
-        match opened {
-            Some((_, site_mark)) => Ok(site_mark),
-            None => Err(Refusal { number: 7, mark: 0 }),
-        }
+        let ad = [&file[..self.header.edition.header_bytes], index];
+        let opened = self.open(key, 0, ad, &file[closing..])?;
+        Ok(opened.1)
     }
 
-    /// Picture and stamp of an entry. Refused with 7, the mark is its shot
-    /// number.
+    /// Picture and stamp of an entry.
     fn open_record(
         &self,
         key: &[u8],
@@ -100,11 +118,7 @@ impl Front {
     ) -> Result<(Vec<u8>, [u8; STAMP_BYTES]), Refusal> {
         let record = &file[entry.offset as usize..entry.end() as usize];
         let ad: [&[u8]; 2] = [&entry.to_bytes(), &[]];
-        let opened = open_shot(key, self.header.burst_number, entry.shot, ad, record);
-        opened.ok_or(Refusal {
-            number: 7,
-            mark: u32::from(entry.shot),
-        })
+        self.open(key, entry.shot, ad, record)
     }
 }
 
@@ -120,6 +134,7 @@ fn checked_front(key: &[u8], file: &[u8]) -> Result<(Front, Checked), Refusal> {
     }
     let checked = Checked {
         burst_number: front.header.burst_number,
+        camera: front.header.camera,
         site_mark,
         taken: u64::from(front.header.taken),
         kept: u64::from(front.header.kept),

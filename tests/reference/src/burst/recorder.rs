@@ -1,8 +1,9 @@
-//! The recorder on a real buffer (the scope paper, "Recorder").
+//! The recorder on a real buffer (the scope paper, "Recorder"). It writes
+//! edition 2 (request N1).
 
 use super::layout::{
-    records_end, seal_shot, EDITION, ENTRY_BYTES, HEADER_BYTES, KEY_BYTES, LEAST_FILE_BYTES,
-    LONGEST_PICTURE, MOST_SHOTS, SEAL_BYTES, SHORTEST_PICTURE, STAMP_BYTES,
+    records_end, seal_shot, EDITION_2, ENTRY_BYTES, KEY_BYTES, LONGEST_PICTURE, MOST_SHOTS,
+    SEAL_BYTES, SHORTEST_PICTURE, STAMP_BYTES,
 };
 use super::{Answer, Entry, Header};
 
@@ -11,6 +12,7 @@ use super::{Answer, Entry, Header};
 pub struct Recorder {
     pub key: [u8; KEY_BYTES],
     pub burst_number: u64,
+    pub camera: u32,
     pub site_mark: [u8; STAMP_BYTES],
     pub taken: u64,
     pub kept: u64,
@@ -29,6 +31,7 @@ impl Recorder {
     pub const REFUSED: Recorder = Recorder {
         key: [0; KEY_BYTES],
         burst_number: 0,
+        camera: 0,
         site_mark: [0; STAMP_BYTES],
         taken: 0,
         kept: 0,
@@ -38,18 +41,21 @@ impl Recorder {
     };
 
     /// Not closed, taken at most 60, kept at most taken, and the first kept
-    /// entries obey the index rules and end at bytes used.
+    /// entries obey the index rules and end at bytes used. The camera number is
+    /// not looked at.
     pub fn is_sound(&self) -> bool {
-        !self.closed
-            && self.taken <= MOST_SHOTS as u64
-            && self.kept <= self.taken
-            && records_end(&self.entries[..self.kept as usize], self.taken) == Some(self.used)
+        if self.closed || self.taken > MOST_SHOTS as u64 || self.kept > self.taken {
+            return false;
+        }
+        let entries = &self.entries[..self.kept as usize];
+        records_end(EDITION_2, entries, self.taken) == Some(self.used)
     }
 
-    /// Zeros the first 32 bytes of the buffer. Order: 1, 3, 11.
+    /// Zeros the first 40 bytes of the buffer. Order: 1, 3, 15, 11.
     pub fn begin(
         key: &[u8],
         burst_number: u64,
+        camera: u32,
         site_mark: &[u8],
         buffer: &mut [u8],
     ) -> (Recorder, Answer) {
@@ -60,15 +66,19 @@ impl Recorder {
         let Ok(site_mark) = site_mark.try_into() else {
             return refused(3);
         };
-        if buffer.len() < LEAST_FILE_BYTES {
+        if camera == 0 {
+            return refused(15);
+        }
+        if buffer.len() < EDITION_2.least_file_bytes() {
             return refused(11);
         }
-        write(buffer, 0, &[0; HEADER_BYTES]);
+        write(buffer, 0, &[0; EDITION_2.header_bytes]);
         let recorder = Recorder {
             key,
             burst_number,
+            camera,
             site_mark,
-            used: HEADER_BYTES as u64,
+            used: EDITION_2.header_bytes as u64,
             closed: false,
             ..Recorder::REFUSED
         };
@@ -97,6 +107,17 @@ impl Recorder {
         None
     }
 
+    /// A record, or with shot number 0 the closing seal.
+    fn seal(&self, shot: u16, secret: &[u8], ad: [&[u8]; 2], msg: &[u8]) -> Vec<u8> {
+        let Recorder {
+            key,
+            burst_number,
+            camera,
+            ..
+        } = self;
+        seal_shot(key, *burst_number, shot, *camera, secret, ad, msg)
+    }
+
     /// One record at bytes used, one entry at place kept; then taken and kept
     /// are one more, and used is past the record.
     pub fn keep(&mut self, stamp: &[u8], picture: &[u8], buffer: &mut [u8]) -> Answer {
@@ -111,7 +132,7 @@ impl Recorder {
             length: picture.len() as u32,
         };
         let ad: [&[u8]; 2] = [&entry.to_bytes(), &[]];
-        let record = seal_shot(&self.key, self.burst_number, entry.shot, stamp, ad, picture);
+        let record = self.seal(entry.shot, stamp, ad, picture);
         write(buffer, self.used as usize, &record);
         self.entries[self.kept as usize] = entry;
         self.kept += 1;
@@ -135,15 +156,17 @@ impl Recorder {
     fn header(&self) -> Header {
         let closing_offset = self.used as u32 + (ENTRY_BYTES as u32) * self.kept as u32;
         Header {
-            edition: EDITION,
+            edition: EDITION_2,
             taken: self.taken as u16,
             kept: self.kept as u16,
             dropped: (self.taken - self.kept) as u16,
             burst_number: self.burst_number,
-            picture_offset: HEADER_BYTES as u32,
+            picture_offset: EDITION_2.header_bytes as u32,
             index_offset: self.used as u32,
             closing_offset,
             total: closing_offset + SEAL_BYTES as u32,
+            camera: self.camera,
+            zeros: 0,
         }
     }
 
@@ -159,7 +182,7 @@ impl Recorder {
         let entries = self.entries[..self.kept as usize].iter();
         let index = entries.flat_map(Entry::to_bytes).collect::<Vec<u8>>();
         let ad: [&[u8]; 2] = [&header.to_bytes(), &index];
-        let closing = seal_shot(&self.key, self.burst_number, 0, &self.site_mark, ad, &[]);
+        let closing = self.seal(0, &self.site_mark, ad, &[]);
         write(buffer, 0, &header.to_bytes());
         write(buffer, header.index_offset as usize, &index);
         write(buffer, header.closing_offset as usize, &closing);

@@ -2,11 +2,18 @@
 #![allow(dead_code)]
 
 use reference::burst::plain::{run, Call, PlainBurst};
-use reference::burst::reader::{check, fetch, record, RecordPart};
-use reference::burst::{Answer, Recorder, Refusal};
+use reference::burst::reader::{check, fetch, front, record, RecordPart};
+use reference::burst::{Answer, Edition, Recorder, Refusal, EDITION_1, EDITION_2};
+use reference::sealing::{bits, Variant};
 
 pub const KEY: [u8; 16] = *b"sixteen key byte";
 pub const SITE_MARK: [u8; 16] = *b"hollow oak, east";
+
+/// Four bytes that differ, none of them 0.
+pub const CAMERA: u32 = 0x0D0C_0B0A;
+
+/// The editions, each with its picture offset.
+pub const STARTS: [(Edition, usize); 2] = [(EDITION_1, 32), (EDITION_2, 40)];
 
 /// A buffer length that no list here reaches.
 pub const ROOM: usize = 1 << 40;
@@ -15,8 +22,17 @@ pub fn begin(burst_number: u64) -> Call {
     Call::Begin {
         key: KEY.to_vec(),
         burst_number,
+        camera: CAMERA,
         site_mark: SITE_MARK.to_vec(),
     }
+}
+
+/// A list with another camera number.
+pub fn with_camera(mut calls: Vec<Call>, number: u32) -> Vec<Call> {
+    if let Call::Begin { camera, .. } = &mut calls[0] {
+        *camera = number;
+    }
+    calls
 }
 
 /// Bytes that differ from one another and from one `seed` to another.
@@ -44,8 +60,28 @@ pub fn list_of(burst_number: u64, lengths: &[usize]) -> Vec<Call> {
 }
 
 /// The file of `list_of`, by the plain burst.
-pub fn file_of(burst_number: u64, lengths: &[usize]) -> Vec<u8> {
-    run(&list_of(burst_number, lengths), ROOM).file.unwrap()
+pub fn file_of(edition: Edition, burst_number: u64, lengths: &[usize]) -> Vec<u8> {
+    let outcome = run(edition, &list_of(burst_number, lengths), ROOM);
+    outcome.file.unwrap()
+}
+
+/// One seal of `list_of`, by the bit-level version. The camera number has bytes
+/// 10 to 13 of the nonce, in edition 2 alone.
+pub fn bit_seal(
+    edition: Edition,
+    burst_number: u64,
+    shot: u8,
+    secret: &[u8],
+    ad: &[u8],
+    msg: &[u8],
+) -> Vec<u8> {
+    let mut nonce = [0; 16];
+    nonce[..8].copy_from_slice(&burst_number.to_le_bytes());
+    nonce[8] = shot;
+    if edition == EDITION_2 {
+        nonce[10..14].copy_from_slice(&[0x0A, 0x0B, 0x0C, 0x0D]);
+    }
+    bits::seal(Variant::Icepole128, &KEY, &nonce, secret, ad, msg)
 }
 
 /// One call on a real recorder and buffer.
@@ -54,9 +90,10 @@ pub fn record_call(recorder: &mut Recorder, call: &Call, buffer: &mut [u8]) -> A
         Call::Begin {
             key,
             burst_number,
+            camera,
             site_mark,
         } => {
-            let (begun, answer) = Recorder::begin(key, *burst_number, site_mark, buffer);
+            let (begun, answer) = Recorder::begin(key, *burst_number, *camera, site_mark, buffer);
             *recorder = begun;
             answer
         }
@@ -76,7 +113,9 @@ pub fn check_number(key: &[u8], file: &[u8]) -> (u32, u32) {
 /// numbered pictures, and gaps for the shot numbers that no fetch returns.
 pub fn assert_gives_back(burst: &PlainBurst, file: &[u8]) {
     let checked = check(&burst.key, file).unwrap();
+    assert_eq!(front(file).unwrap().header.edition, burst.edition);
     assert_eq!(checked.burst_number, burst.burst_number);
+    assert_eq!(checked.camera, burst.camera);
     assert_eq!(checked.site_mark, burst.site_mark);
     assert_eq!(checked.taken, burst.taken() as u64);
     assert_eq!(checked.kept, burst.kept() as u64);

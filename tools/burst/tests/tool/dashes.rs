@@ -1,6 +1,6 @@
 //! A dash in place of a file: standard input or standard output, once each.
 
-use crate::folder::{key, unread, Folder, Run, SITE_MARK, STAMP, WORKED};
+use crate::folder::{key, unread, Folder, Run, EDITION_2, SITE_MARK, STAMP};
 use std::fs;
 use std::process::{Output, Stdio};
 
@@ -16,31 +16,32 @@ fn with_input(folder: &Folder, line: &str, input: &[u8]) -> Output {
 #[test]
 fn every_input_can_be_standard_input() {
     let record = format!(
-        "record --key key --number 7 --site-mark {SITE_MARK} --out out \
+        "record --key key --number 7 --camera 3 --site-mark {SITE_MARK} --out out \
          --drop --keep {STAMP} fox --drop"
     );
+    let burst = EDITION_2.file;
     for (line, name, input) in [
-        ("list 7.burst", "7.burst", &WORKED[..]),
-        ("explain 7.burst", "7.burst", &WORKED),
-        ("check --key key 7.burst", "7.burst", &WORKED),
+        ("list 7.burst", "7.burst", burst),
+        ("explain 7.burst", "7.burst", burst),
+        ("check --key key 7.burst", "7.burst", burst),
         ("check --key key 7.burst", "key", &key()),
         (
             "fetch --key key --place 0 --out out 7.burst",
             "7.burst",
-            &WORKED,
+            burst,
         ),
         ("fetch --key key --place 0 --out out 7.burst", "key", &key()),
         (&record, "key", &key()),
         (&record, "fox", b"fox"),
     ] {
         let folder = Folder::new();
-        let expected = folder.say(line).done();
+        let expected = folder.say(line);
         let written = line.contains("--out").then(|| folder.get("out"));
         let _ = fs::remove_file(folder.path().join("out"));
         let dashed = line.replace(&format!(" {name}"), " -");
         fs::remove_file(folder.path().join(name)).unwrap();
         let run = Run::of(with_input(&folder, &dashed, input));
-        assert_eq!(run.done(), expected, "{dashed}");
+        assert_eq!(run.noted(&expected.err), expected.out, "{dashed}");
         if let Some(written) = written {
             assert_eq!(folder.get("out"), written, "{dashed}");
         }
@@ -54,8 +55,8 @@ fn standard_input_is_read_once() {
         "check --key - -",
         "fetch --key - --place 0 --out out -",
         "fetch --key - --all all -",
-        "record --key - --number 7 --site-mark x --out out --keep x -",
-        "record --key key --number 7 --site-mark x --out out --keep x - --keep x -",
+        "record --key - --number 7 --camera 3 --site-mark x --out out --keep x -",
+        "record --key key --number 7 --camera 3 --site-mark x --out out --keep x - --keep x -",
     ] {
         let run = Run::of(with_input(&folder, line, &key()));
         run.failed(64, &["standard input, which is read once"]);
@@ -70,7 +71,7 @@ fn messages_name_standard_input() {
         ("check --key - 7.burst", 1, "not 16 bytes: standard input"),
         ("check --key key -", 12, "rule is broken: standard input"),
         (
-            "record --key key --number 7 --site-mark x --out out --keep x -",
+            "record --key key --number 7 --camera 3 --site-mark x --out out --keep x -",
             10,
             "shot 1 (standard input)",
         ),
@@ -100,15 +101,15 @@ fn a_file_can_go_to_standard_output() {
     assert!(err.starts_with("shot 2 place 0 length 3 stamp "), "{err}");
     assert!(err.ends_with(" to standard output\n"), "{err}");
 
-    let front = format!("record --key key --number 7 --site-mark {SITE_MARK} --out -");
+    let front = format!("record --key key --number 7 --camera 3 --site-mark {SITE_MARK} --out -");
     let line = format!("{front} --drop --keep {STAMP} fox --drop");
     let output = with_input(&folder, &line, b"");
     assert_eq!(
         (output.status.code(), &output.stdout[..]),
-        (Some(0), &WORKED[..])
+        (Some(0), EDITION_2.file)
     );
     let err = String::from_utf8(output.stderr).unwrap();
-    let said = "burst 7 taken 3 kept 1 dropped 2 to standard output, 111 bytes\n";
+    let said = "burst 7 camera 3 taken 3 kept 1 dropped 2 to standard output, 119 bytes\n";
     assert_eq!(err, said);
     folder.check_nothing_new();
 }
@@ -116,12 +117,11 @@ fn a_file_can_go_to_standard_output() {
 #[test]
 fn a_refused_file_gives_standard_output_nothing() {
     let folder = Folder::new();
-    let mut file = WORKED;
-    file[50] ^= 1;
-    folder.put("7.burst", &file);
+    folder.put("7.burst", &EDITION_2.changed(50, 1));
     let run = folder.say("fetch --key key --place 0 --out - 7.burst");
     assert_eq!(run.refused(7, &[]).out, "");
-    let run = folder.say("record --key key --number 7 --site-mark x --out - --keep hex:00 fox");
+    let front = "record --key key --number 7 --camera 3 --site-mark x --out -";
+    let run = folder.say(&format!("{front} --keep hex:00 fox"));
     assert_eq!(run.refused(3, &[]).out, "");
 }
 
@@ -153,7 +153,7 @@ fn no_folder_is_standard_output() {
 #[test]
 fn files_and_folders_that_are_called_a_dash_have_another_name() {
     let folder = Folder::new();
-    folder.put("-", &WORKED);
+    folder.put("-", EDITION_2.file);
     folder.say("check --key key ./-").done();
     let run = folder.say("fetch --key key --place 0 --out ./- 7.burst");
     run.failed(73, &["./- exists already"]);
@@ -172,7 +172,7 @@ fn a_terminal_gets_no_file() {
     };
     for line in [
         "fetch --key key --place 0 --out - 7.burst",
-        "record --key key --number 7 --site-mark x --out - --drop",
+        "record --key key --number 7 --camera 3 --site-mark x --out - --drop",
     ] {
         let mut command = folder.command(&line.split(' ').collect::<Vec<_>>());
         command.stdout(terminal.try_clone().unwrap());

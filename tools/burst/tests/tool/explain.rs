@@ -1,8 +1,9 @@
 //! The layout of whole files, and what is said of broken fronts.
 
-use crate::folder::{Folder, WORKED};
+use crate::folder::{Folder, Run, Worked, EDITIONS, EDITION_2};
+use std::collections::BTreeSet;
 
-const DRAWING: &str = "\
+const DRAWING_1: &str = "\
 front right, 111 bytes; the offset stands at each edge
          0 +--------------------------------------------------------------+
            | header                                              32 bytes |
@@ -24,9 +25,34 @@ Dropped shots: 1, 3.
 Tags were not looked at: that takes the key and `burst check`.
 ";
 
+const DRAWING_2: &str = "\
+front right, 119 bytes; the offset stands at each edge
+         0 +--------------------------------------------------------------+
+           | header                                              40 bytes |
+           |   edition 2, burst 7                                         |
+           |   taken 3 kept 1 dropped 2                                   |
+           |   pictures from 40, index at 75                              |
+           |   closing seal at 87, total length 119                       |
+           |   camera 3, four zeros                                       |
+        40 +--------------------------------------------------------------+
+           | record of shot 2, place 0                           35 bytes |
+           |   sealed stamp 16, sealed picture 3, tag 16                  |
+        75 +--------------------------------------------------------------+
+           | index                                               12 bytes |
+           |   place 0: shot 2 at 40 length 3                             |
+        87 +--------------------------------------------------------------+
+           | closing seal                                        32 bytes |
+           |   sealed site mark 16, tag 16                                |
+       119 +--------------------------------------------------------------+
+Dropped shots: 1, 3.
+Tags were not looked at: that takes the key and `burst check`.
+";
+
 #[test]
-fn the_worked_file_is_drawn() {
-    assert_eq!(Folder::new().say("explain 7.burst").done(), DRAWING);
+fn the_worked_files_are_drawn() {
+    for (worked, drawing) in EDITIONS.iter().zip([DRAWING_1, DRAWING_2]) {
+        assert_eq!(Folder::of(worked).say("explain 7.burst").done(), drawing);
+    }
 }
 
 #[test]
@@ -36,9 +62,9 @@ fn a_burst_without_gaps_and_one_without_pictures_are_drawn() {
         .record(&["--keep", "a", "fox", "--keep", "b", "fox"])
         .done();
     let out = folder.say("explain out.burst").done();
-    assert!(out.contains("\n        67 +-"), "{out}");
+    assert!(out.contains("\n        75 +-"), "{out}");
     assert!(out.contains("| record of shot 2, place 1 "), "{out}");
-    assert!(out.contains("|   place 1: shot 2 at 67 length 3 "), "{out}");
+    assert!(out.contains("|   place 1: shot 2 at 75 length 3 "), "{out}");
     assert!(out.contains("No shot was dropped."), "{out}");
     folder.record(&["--force"]).done();
     let out = folder.say("explain out.burst").done();
@@ -48,75 +74,104 @@ fn a_burst_without_gaps_and_one_without_pictures_are_drawn() {
     );
 }
 
-/// The worked file with another byte at an offset.
-fn with(folder: &Folder, at: usize, byte: u8) {
-    let mut file = WORKED;
-    file[at] = byte;
-    folder.put("7.burst", &file);
+/// An offset in the worked file of edition 1, another byte there, and a rule that
+/// is broken then.
+const BROKEN_1: &str = "\
+ 0   2  rule 3: picture offset is 32, and must be 40 in edition 2
+ 0   2  rule 4: the four bytes 36 to 39 are 3337966688, and must be 0
+ 0   3  rule 2: edition is 3, and must be 1 or 2
+ 1   1  rule 2: edition is 257, and must be 1 or 2
+ 2  61  rule 5: taken is 61, and is at most 60
+ 2  61  rule 5: taken is 61, and must be 3, kept and dropped together
+ 4   2  rule 5: taken is 3, and must be 4, kept and dropped together
+ 4   2  rule 6: closing offset is 79, and must be 91, the index's end
+16  40  rule 3: picture offset is 40, and must be 32 in edition 1
+24  80  rule 6: closing offset is 80, and must be 79, the index's end
+24  80  rule 7: total length is 111, and must be 112, the closing seal's end
+28 110  rule 7: total length is 110, and must be 111, the closing seal's end
+28 110  rule 7: total length is 110, and must be 111, the file's length
+67   4  rule 8: at place 0: shot 4 after shot 0, with 3 shots taken
+67   0  rule 8: at place 0: shot 0 after shot 0, with 3 shots taken
+69   1  rule 9: at place 0: the zero field is 1, and must be 0
+75   0  rule 9: at place 0: the picture length is 0
+71  33  rule 10: at place 0: the record offset is 33, and must be 32
+75   2  rule 10: index offset is 67, and must be 66, the records' end
+";
+
+/// The same for edition 2.
+const BROKEN_2: &str = "\
+ 0   1  rule 3: picture offset is 40, and must be 32 in edition 1
+ 0   3  rule 2: edition is 3, and must be 1 or 2
+ 1   1  rule 2: edition is 258, and must be 1 or 2
+ 2  61  rule 5: taken is 61, and is at most 60
+ 2  61  rule 5: taken is 61, and must be 3, kept and dropped together
+ 4   2  rule 5: taken is 3, and must be 4, kept and dropped together
+ 4   2  rule 6: closing offset is 87, and must be 99, the index's end
+16  32  rule 3: picture offset is 32, and must be 40 in edition 2
+24  88  rule 6: closing offset is 88, and must be 87, the index's end
+24  88  rule 7: total length is 119, and must be 120, the closing seal's end
+28 118  rule 7: total length is 118, and must be 119, the closing seal's end
+28 118  rule 7: total length is 118, and must be 119, the file's length
+32   0  rule 4: camera number is 0, and must be 1 or more
+36   1  rule 4: the four bytes 36 to 39 are 1, and must be 0
+39   1  rule 4: the four bytes 36 to 39 are 16777216, and must be 0
+75   4  rule 8: at place 0: shot 4 after shot 0, with 3 shots taken
+75   0  rule 8: at place 0: shot 0 after shot 0, with 3 shots taken
+77   1  rule 9: at place 0: the zero field is 1, and must be 0
+83   0  rule 9: at place 0: the picture length is 0
+79  41  rule 10: at place 0: the record offset is 41, and must be 40
+83   2  rule 10: index offset is 75, and must be 74, the records' end
+";
+
+/// A line of these tables: offset, byte and rule.
+fn broken_line(line: &str) -> (usize, u8, &str) {
+    let (numbers, rule) = line.split_at(line.find("rule ").unwrap());
+    let mut numbers = numbers.split_whitespace();
+    let mut next = || numbers.next().unwrap();
+    (next().parse().unwrap(), next().parse().unwrap(), rule)
 }
 
-/// A byte of the worked file, another value for it, and what is said then.
-const BROKEN: [(usize, u8, &str); 13] = [
-    (0, 2, "rule 2: edition is 2, and must be 1"),
-    (16, 40, "rule 2: picture offset is 40, and must be 32"),
-    (2, 61, "rule 3: taken is 61, and is at most 60"),
-    (
-        4,
-        2,
-        "rule 3: taken is 3, and must be 4, kept and dropped together",
-    ),
-    (
-        24,
-        80,
-        "rule 4: closing offset is 80, and must be 79, the index's end",
-    ),
-    (
-        28,
-        110,
-        "rule 5: total length is 110, and must be 111, the closing seal's end",
-    ),
-    (
-        28,
-        110,
-        "rule 5: total length is 110, and must be 111, the file's length",
-    ),
-    (
-        67,
-        4,
-        "rule 6: at place 0: shot 4 after shot 0, with 3 shots taken",
-    ),
-    (
-        67,
-        0,
-        "rule 6: at place 0: shot 0 after shot 0, with 3 shots taken",
-    ),
-    (
-        69,
-        1,
-        "rule 7: at place 0: the zero field is 1, and must be 0",
-    ),
-    (75, 0, "rule 7: at place 0: the picture length is 0"),
-    (
-        71,
-        33,
-        "rule 8: at place 0: the record offset is 33, and must be 32",
-    ),
-    (
-        75,
-        2,
-        "rule 8: index offset is 67, and must be 66, the records' end",
-    ),
-];
+/// The broken rules that a run of explain names.
+fn broken_rules(run: &Run) -> Vec<&str> {
+    let lines = run.out.lines().map(str::trim_start);
+    lines.filter(|line| line.starts_with("rule ")).collect()
+}
 
 #[test]
 fn broken_rules_are_named() {
+    for (worked, table) in EDITIONS.iter().zip([BROKEN_1, BROKEN_2]) {
+        let folder = Folder::of(worked);
+        for (at, byte, _) in table.lines().map(broken_line) {
+            folder.put("7.burst", &worked.with(at, byte));
+            let run = folder.say("explain 7.burst").refused(12, &["7.burst"]);
+            assert!(run.out.starts_with("front 12: a front rule is broken\n"));
+            let same = |line: &(usize, u8, &str)| (line.0, line.1) == (at, byte);
+            let broken = table.lines().map(broken_line).filter(same);
+            let broken: Vec<&str> = broken.map(|line| line.2).collect();
+            assert_eq!(broken_rules(&run), broken, "byte {at}: {byte}");
+        }
+    }
+}
+
+/// Long enough for edition 1, as rule 1 wants it, and too short for edition 2.
+#[test]
+fn the_shortest_files_are_those_of_their_edition() {
     let folder = Folder::new();
-    for (at, byte, words) in BROKEN {
-        with(&folder, at, byte);
-        let run = folder.say("explain 7.burst").refused(12, &["7.burst"]);
-        assert!(run.out.starts_with("front 12: a front rule is broken\n"));
-        let line = format!("  {words}\n");
-        assert!(run.out.contains(&line), "{words}: {}", run.out);
+    for worked in &EDITIONS {
+        for length in 32..=72 {
+            folder.put("7.burst", &worked.file[..length]);
+            let run = folder.say("explain 7.burst").refused(12, &[]);
+            let mut said = broken_rules(&run);
+            said.retain(|line| line.contains(" has at least "));
+            let mut expected = Vec::new();
+            if length < 64 {
+                expected.push("rule 1: a burst file has at least 64 bytes");
+            }
+            if length < 72 && worked.edition == 2 {
+                expected.push("rule 2: a file of edition 2 has at least 72 bytes");
+            }
+            assert_eq!(said, expected, "{length}");
+        }
     }
 }
 
@@ -131,7 +186,7 @@ fn rules_of_the_page() -> Vec<String> {
         let next = format!("{}. ", rules.len() + 1);
         match (line.strip_prefix(&next), rules.last_mut()) {
             (Some(rule), _) => rules.push(rule.to_lowercase()),
-            (None, Some(rule)) => *rule += &line.to_lowercase(),
+            (None, Some(rule)) => *rule += &format!(" {}", line.trim().to_lowercase()),
             (None, None) => {}
         }
     }
@@ -142,24 +197,29 @@ fn rules_of_the_page() -> Vec<String> {
 #[test]
 fn rules_have_the_numbers_of_the_page() {
     let rules = rules_of_the_page();
-    assert_eq!(rules.len(), 8);
+    assert_eq!(rules.len(), 10);
     assert!(rules[0].contains("at least 64 bytes"));
-    for (_, _, words) in BROKEN {
-        let (rule, words) = words.split_once(": ").unwrap();
+    assert!(rules[1].contains("at least 72 bytes"));
+    let mut named = BTreeSet::from([1]);
+    for (_, _, line) in [BROKEN_1, BROKEN_2].concat().lines().map(broken_line) {
+        let (rule, words) = line.split_once(": ").unwrap();
         let number: usize = rule.strip_prefix("rule ").unwrap().parse().unwrap();
         let words = words.strip_prefix("at place 0: ").unwrap_or(words);
         let words = words.strip_prefix("the ").unwrap_or(words);
-        let end = words.find(" is ").or(words.find(' ')).unwrap();
+        let ends = [" is ", " are ", " "].map(|end| words.find(end));
+        let end = ends.into_iter().flatten().next().unwrap();
         let rule = &rules[number - 1];
         assert!(rule.contains(&words[..end]), "{number} {}", &words[..end]);
+        named.insert(number);
     }
+    assert!(named.into_iter().eq(1..=10));
 }
 
 /// It has shown already what the other commands send the reader to it for.
 #[test]
 fn explain_does_not_advise_to_run_explain() {
     let folder = Folder::new();
-    folder.put("7.burst", &WORKED[..110]);
+    folder.put("7.burst", &EDITION_2.file[..110]);
     let advice = [
         "Copy it from the card again",
         "docs/FORMAT.md has the rules",
@@ -170,48 +230,67 @@ fn explain_does_not_advise_to_run_explain() {
     run.refused(12, &["`burst explain FILE` shows"]);
 }
 
-/// Explain says 12 exactly where list does, and then names a rule.
-#[test]
-fn every_changed_bit_of_the_front_is_judged_as_list_judges_it() {
-    let folder = Folder::new();
+/// Explain says 12 exactly where list does, and then names a rule. This is how
+/// many changes of one bit break a front.
+fn count_broken(worked: &Worked) -> usize {
+    let folder = Folder::of(worked);
     let mut broken = 0;
-    for bit in (0..8 * 32).chain(8 * 67..8 * 79) {
+    for bit in (0..8 * worked.header).chain(8 * worked.index()..8 * worked.closing()) {
         let (at, bit) = (bit / 8, bit % 8);
-        with(&folder, at, WORKED[at] ^ 1 << bit);
+        folder.put("7.burst", &worked.changed(at, 1 << bit));
         let (listed, run) = (folder.say("list 7.burst"), folder.say("explain 7.burst"));
         assert_eq!(run.status, listed.status, "byte {at} bit {bit}");
-        let named = run.out.lines().filter(|line| line.starts_with("  rule "));
-        assert_eq!(named.count() > 0, run.status == 12, "byte {at} bit {bit}");
+        let is_named = !broken_rules(&run).is_empty();
+        assert_eq!(is_named, run.status == 12, "byte {at} bit {bit}");
         broken += usize::from(run.status == 12);
     }
-    // Only the burst number's 64 bits, and the shot number's changes from 2 to
-    // 3, break no rule.
-    assert_eq!(broken, 256 - 64 + 96 - 1);
+    broken
+}
+
+/// Only the burst number's 64 bits, the camera number's 32, and the shot number's
+/// change from 2 to 3 break no rule.
+#[test]
+fn every_changed_bit_of_the_front_is_judged_as_list_judges_it() {
+    let counts = EDITIONS.each_ref().map(count_broken);
+    assert_eq!(counts, [8 * 32 - 64 + 96 - 1, 8 * 40 - 64 - 32 + 96 - 1]);
 }
 
 #[test]
 fn a_cut_header_is_told_as_far_as_it_goes() {
-    let folder = Folder::new();
-    let ends = [2, 4, 6, 8, 16, 20, 24, 28, 32];
-    for length in 0..=32 {
-        folder.put("7.burst", &WORKED[..length]);
-        let run = folder.say("explain 7.burst").refused(12, &[]);
-        assert!(run.out.contains(&format!("The file has {length} bytes.")));
-        assert!(run.out.contains("rule 1: "), "{}", run.out);
-        let there = run.out.matches("not there, the file ends before").count();
-        let expected = ends.iter().filter(|end| **end > length).count();
-        assert_eq!(there, expected, "{}", run.out);
+    let ends = [2, 4, 6, 8, 16, 20, 24, 28, 32, 36, 40];
+    for worked in &EDITIONS {
+        let folder = Folder::of(worked);
+        for length in 0..=worked.header {
+            folder.put("7.burst", &worked.file[..length]);
+            let run = folder.say("explain 7.burst").refused(12, &[]);
+            assert!(run.out.contains(&format!("The file has {length} bytes.")));
+            assert!(run.out.contains("rule 1: "), "{}", run.out);
+            let there = run.out.matches("not there, the file ends before").count();
+            // Without its edition, a header is told as one of edition 1.
+            let header = if length < 2 { 32 } else { worked.header };
+            let cut = |end: &&usize| length < **end && **end <= header;
+            assert_eq!(there, ends.iter().filter(cut).count(), "{}", run.out);
+        }
     }
-    let run = folder.say("explain 7.burst");
-    assert!(
-        run.out.contains("         8       8  burst number    7\n"),
-        "{}",
-        run.out
-    );
-    assert!(
-        run.out
-            .contains("        28       4  total length    111\n"),
-        "{}",
-        run.out
-    );
+}
+
+#[test]
+fn the_fields_of_a_broken_header_are_told() {
+    for worked in &EDITIONS {
+        let folder = Folder::of(worked);
+        let (header, total) = (worked.header, worked.file.len());
+        folder.put("7.burst", &worked.file[..header]);
+        let out = folder.say("explain 7.burst").refused(12, &[]).out;
+        for line in [
+            "         8       8  burst number    7\n",
+            &format!("        16       4  picture offset  {header}\n"),
+            &format!("        28       4  total length    {total}\n"),
+        ] {
+            assert!(out.contains(line), "{out}");
+        }
+        let camera =
+            "        32       4  camera number   3\n        36       4  zeros           0\n";
+        assert_eq!(out.contains(camera), worked.edition == 2, "{out}");
+        assert_eq!(out.contains("camera"), worked.edition == 2, "{out}");
+    }
 }

@@ -7,8 +7,7 @@ use std::path::{Path, PathBuf};
 use std::process::{Child, Command, Output, Stdio};
 use std::sync::atomic::{AtomicU32, Ordering};
 
-/// The worked file of docs/FORMAT.md: burst 7 with drop, keep of `fox`, drop.
-pub const WORKED: [u8; 111] = [
+const FILE_1: [u8; 111] = [
     0x01, 0x00, 0x03, 0x00, 0x01, 0x00, 0x02, 0x00, 0x07, 0x00, 0x00, 0x00, 0x00, 0x00, 0x00, 0x00,
     0x20, 0x00, 0x00, 0x00, 0x43, 0x00, 0x00, 0x00, 0x4F, 0x00, 0x00, 0x00, 0x6F, 0x00, 0x00, 0x00,
     0x18, 0x6C, 0xF0, 0x42, 0x60, 0x54, 0xF5, 0xC6, 0x98, 0x45, 0xF6, 0xB7, 0x80, 0x23, 0x5C, 0x80,
@@ -18,7 +17,66 @@ pub const WORKED: [u8; 111] = [
     0xDC, 0x3F, 0x75, 0xE3, 0x14, 0xD0, 0x68, 0xBB, 0x8F, 0xA9, 0x0A, 0x2F, 0xBC, 0x19, 0x43,
 ];
 
-/// Site mark and stamp of the worked file.
+const FILE_2: [u8; 119] = [
+    0x02, 0x00, 0x03, 0x00, 0x01, 0x00, 0x02, 0x00, 0x07, 0x00, 0x00, 0x00, 0x00, 0x00, 0x00, 0x00,
+    0x28, 0x00, 0x00, 0x00, 0x4B, 0x00, 0x00, 0x00, 0x57, 0x00, 0x00, 0x00, 0x77, 0x00, 0x00, 0x00,
+    0x03, 0x00, 0x00, 0x00, 0x00, 0x00, 0x00, 0x00, 0x01, 0xBC, 0xE4, 0xC5, 0x07, 0xAB, 0x62, 0xFD,
+    0x45, 0xD3, 0x9C, 0x0F, 0xEB, 0x1B, 0xBC, 0xFE, 0x40, 0x0B, 0xBE, 0xD8, 0x76, 0xE5, 0xA3, 0x7F,
+    0xCC, 0xFF, 0x87, 0x3D, 0x54, 0x38, 0xC9, 0x88, 0x3F, 0x81, 0x4B, 0x02, 0x00, 0x00, 0x00, 0x28,
+    0x00, 0x00, 0x00, 0x03, 0x00, 0x00, 0x00, 0x58, 0xC9, 0x53, 0x0B, 0x2E, 0xD3, 0x0B, 0x9A, 0x94,
+    0x5D, 0x73, 0xCE, 0xE5, 0xA1, 0x1F, 0x49, 0xDB, 0x27, 0xE7, 0x97, 0x26, 0x9E, 0xAA, 0xE0, 0xB3,
+    0xB7, 0x37, 0x00, 0x4C, 0x97, 0xE1, 0xBC,
+];
+
+/// The file of burst 7 with drop, keep of `fox`, drop. In edition 1 it is the first
+/// worked file of docs/FORMAT.md; in edition 2 it is of camera 3, and else the same.
+pub struct Worked {
+    pub edition: usize,
+    pub file: &'static [u8],
+    /// How long the header is; the record follows.
+    pub header: usize,
+}
+
+impl Worked {
+    pub fn index(&self) -> usize {
+        self.header + 35
+    }
+
+    pub fn closing(&self) -> usize {
+        self.index() + 12
+    }
+
+    /// The file with another byte at an offset.
+    pub fn with(&self, at: usize, byte: u8) -> Vec<u8> {
+        let mut file = self.file.to_vec();
+        file[at] = byte;
+        file
+    }
+
+    /// The file with some bits of a byte changed.
+    pub fn changed(&self, at: usize, bits: u8) -> Vec<u8> {
+        self.with(at, self.file[at] ^ bits)
+    }
+}
+
+pub const EDITION_1: Worked = Worked {
+    edition: 1,
+    file: &FILE_1,
+    header: 32,
+};
+
+pub const EDITION_2: Worked = Worked {
+    edition: 2,
+    file: &FILE_2,
+    header: 40,
+};
+
+pub const EDITIONS: [Worked; 2] = [EDITION_1, EDITION_2];
+
+/// What list says of a file of camera 3 on standard error.
+pub const NOTE: &str = "camera 3\n";
+
+/// Site mark and stamp of the worked files.
 pub const SITE_MARK: &str = "hex:101112131415161718191A1B1C1D1E1F";
 pub const STAMP: &str = "hex:202122232425262728292A2B2C2D2E2F";
 
@@ -29,7 +87,7 @@ pub fn unread() -> PipeWriter {
     writer
 }
 
-/// The key of the worked file is 0 to 15.
+/// The key of the worked files is 0 to 15.
 pub fn key() -> Vec<u8> {
     (0..16).collect()
 }
@@ -53,7 +111,12 @@ impl Run {
 
     /// It went well: what it printed.
     pub fn done(self) -> String {
-        assert_eq!((self.status, self.err.as_str()), (0, ""), "{}", self.out);
+        self.noted("")
+    }
+
+    /// The same, with these words on standard error.
+    pub fn noted(self, note: &str) -> String {
+        assert_eq!((self.status, self.err.as_str()), (0, note), "{}", self.out);
         self.out
     }
 
@@ -81,15 +144,20 @@ pub struct Folder(PathBuf);
 static COUNT: AtomicU32 = AtomicU32::new(0);
 
 impl Folder {
-    /// With the worked file's key, picture and file.
+    /// With key, picture and file of the worked file of edition 2.
     pub fn new() -> Self {
+        Folder::of(&EDITION_2)
+    }
+
+    /// With key, picture and file of a worked file.
+    pub fn of(worked: &Worked) -> Self {
         let number = COUNT.fetch_add(1, Ordering::Relaxed);
         let name = format!("burst-test-{}-{number}", std::process::id());
         let folder = Folder(std::env::temp_dir().join(name));
         fs::create_dir(&folder.0).unwrap();
         folder.put("key", &key());
         folder.put("fox", b"fox");
-        folder.put("7.burst", &WORKED);
+        folder.put("7.burst", worked.file);
         folder
     }
 
@@ -138,11 +206,12 @@ impl Folder {
         self.run(&line.split(' ').collect::<Vec<_>>())
     }
 
-    /// Records shots to `out.burst`, with key, number and site mark of the
-    /// worked file.
+    /// Records shots to `out.burst`, with key, numbers and site mark of the
+    /// worked file of edition 2.
     pub fn record(&self, shots: &[&str]) -> Run {
-        let front = format!("record --key key --number 7 --site-mark {SITE_MARK} --out out.burst");
-        let words: Vec<&str> = front.split(' ').chain(shots.iter().copied()).collect();
+        let front = "record --key key --number 7 --camera 3 --out out.burst --site-mark";
+        let words = front.split(' ').chain([SITE_MARK]);
+        let words: Vec<&str> = words.chain(shots.iter().copied()).collect();
         self.run(&words)
     }
 

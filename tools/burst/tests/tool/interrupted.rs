@@ -210,7 +210,7 @@ fn one_file_is_whole_or_not_there() {
     let folder = many();
     let picture = folder.get("large");
     let burst = folder.get("many.burst");
-    let mut record = "record --key key --number 7 --out out".to_string();
+    let mut record = "record --key key --number 7 --camera 3 --out out".to_string();
     record += &format!(" --site-mark {}", crate::folder::SITE_MARK);
     record += &" --keep x large".repeat(KEPT);
     let fetch = "fetch --key key --place 3 --out out many.burst";
@@ -330,7 +330,8 @@ fn a_run_that_waits_for_input_ends_at_once() {
     let folder = Folder::new();
     for (signal, number) in signals() {
         for line in [
-            "record --key key --number 7 --site-mark x --out out --keep x fox --keep x -",
+            "record --key key --number 7 --camera 3 --site-mark x --out out \
+             --keep x fox --keep x -",
             "fetch --key key --all all -",
         ] {
             let mut command = folder.command(&line.split(' ').collect::<Vec<_>>());

@@ -1,7 +1,7 @@
 //! Names and words from outside are shown without what a terminal would obey or
 //! hide.
 
-use crate::folder::{Folder, Run, WORKED};
+use crate::folder::{Folder, Run, EDITION_2};
 use std::ffi::OsStr;
 use std::fs;
 use std::os::unix::ffi::OsStrExt;
@@ -31,7 +31,7 @@ fn say(folder: &Folder, line: &str) -> Run {
     folder.run(&words.iter().map(String::as_str).collect::<Vec<_>>())
 }
 
-const RECORD: &str = "record --key key --number 7 --site-mark x --out out";
+const RECORD: &str = "record --key key --number 7 --camera 3 --site-mark x --out out";
 
 #[test]
 fn wrong_lines_show_words_filtered() {
@@ -43,6 +43,7 @@ fn wrong_lines_show_words_filtered() {
         "check --key --EVIL",
         "fetch --key key --place EVIL --out out 7.burst",
         &RECORD.replace(" 7", " EVIL"),
+        &RECORD.replace(" 3", " EVIL"),
         &RECORD.replace(" x", " hex:EVIL"),
         &format!("{RECORD} EVIL"),
         &format!("{RECORD} --keep hex:EVIL fox"),
@@ -71,10 +72,8 @@ fn names_of_inputs_are_filtered() {
     }
     let line = format!("{RECORD} --keep hex:00 EVIL");
     check_shown(say(&folder, &line), 3, &line);
-    let mut file = WORKED;
     for at in [50, 100] {
-        file[at] ^= 1;
-        folder.put(EVIL, &file);
+        folder.put(EVIL, &EDITION_2.changed(at, 1));
         check_shown(say(&folder, "check --key key EVIL"), 7, "check");
     }
 }

@@ -1,6 +1,6 @@
 //! Output files: whole or not at all, and none replaced without --force.
 
-use crate::folder::{picture, Folder, STAMP, WORKED};
+use crate::folder::{picture, Folder, EDITION_2, STAMP};
 use std::fs;
 use std::os::unix::fs::{symlink, MetadataExt};
 
@@ -24,7 +24,7 @@ fn an_existing_file_is_replaced_only_by_force() {
 
     folder.record(&[&shots[..], &["--force"]].concat()).done();
     folder.say(&format!("{FETCH} --force")).done();
-    assert_eq!(folder.get("out.burst"), WORKED);
+    assert_eq!(folder.get("out.burst"), EDITION_2.file);
     assert_eq!(folder.get("picture"), b"fox");
     assert_eq!(
         folder.names("."),
@@ -44,9 +44,7 @@ fn record_looks_for_an_existing_file_before_it_reads() {
 fn a_refusal_leaves_an_earlier_file_also_by_force() {
     let folder = Folder::new();
     folder.put("picture", b"earlier");
-    let mut file = WORKED;
-    file[50] ^= 1;
-    folder.put("7.burst", &file);
+    folder.put("7.burst", &EDITION_2.changed(50, 1));
     folder.say(&format!("{FETCH} --force")).refused(7, &[]);
     assert_eq!(folder.get("picture"), b"earlier");
 }
@@ -117,7 +115,7 @@ fn a_missing_folder_is_74() {
 fn a_file_that_does_not_fit_leaves_nothing() {
     let folder = Folder::new();
     folder.put("fox", &picture(100_000, 1));
-    let line = "record --key key --number 7 --site-mark x --out out.burst --keep x fox";
+    let line = "record --key key --number 7 --camera 3 --site-mark x --out out.burst --keep x fox";
     let run = folder.say_short_of_room(8, line);
     run.failed(74, &["cannot write out.burst: "]);
     folder.check_nothing_new();
@@ -136,9 +134,9 @@ fn a_file_that_does_not_fit_leaves_the_earlier_one() {
     let folder = Folder::new();
     folder.put("large", &picture(100_000, 1));
     folder.put("out.burst", b"earlier");
-    let line = "record --force --key key --number 7 --site-mark x --out out.burst --keep x large";
+    let line = "record --key key --number 7 --camera 3 --site-mark x --out out.burst";
     folder
-        .say_short_of_room(8, line)
+        .say_short_of_room(8, &format!("{line} --force --keep x large"))
         .failed(74, &["cannot write out.burst: "]);
     assert_eq!(folder.get("out.burst"), b"earlier");
     assert_eq!(
@@ -295,7 +293,7 @@ fn a_burst_without_pictures_wants_an_empty_folder_too() {
 #[test]
 fn a_refused_file_is_told_before_a_folder_that_is_not_empty() {
     let folder = Folder::new();
-    folder.put("7.burst", &WORKED[..110]);
+    folder.put("7.burst", &EDITION_2.file[..110]);
     let run = folder.say("fetch --key key --all . 7.burst");
     run.refused(12, &[]);
     folder.check_nothing_new();

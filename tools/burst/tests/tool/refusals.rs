@@ -1,6 +1,6 @@
 //! Each refusal: its exit status, its message, and that nothing is written.
 
-use crate::folder::{picture, Folder, STAMP, WORKED};
+use crate::folder::{picture, Folder, EDITIONS, EDITION_2, STAMP};
 
 #[test]
 fn a_key_of_another_length_is_1() {
@@ -34,7 +34,7 @@ fn a_key_of_another_length_is_1() {
 fn a_site_mark_of_another_length_is_3() {
     let folder = Folder::new();
     for mark in ["seventeen letters", "hex:", "hex:00", &format!("{STAMP}00")] {
-        let front = "record --key key --number 7 --out out.burst --drop --site-mark";
+        let front = "record --key key --number 7 --camera 3 --out out.burst --drop --site-mark";
         let words: Vec<&str> = front.split(' ').chain([mark]).collect();
         folder.run(&words).refused(3, &["the site mark", "hex:"]);
         folder.check_nothing_new();
@@ -60,7 +60,7 @@ fn an_empty_site_mark_or_stamp_is_3() {
     let folder = Folder::new();
     let zeros = format!("hex:{}", "0".repeat(32));
     let record = |site_mark, stamp| {
-        let front = "record --key key --number 7 --out out.burst";
+        let front = "record --key key --number 7 --camera 3 --out out.burst";
         let rest = ["--site-mark", site_mark, "--keep", stamp, "fox"];
         folder.run(&front.split(' ').chain(rest).collect::<Vec<_>>())
     };
@@ -73,6 +73,27 @@ fn an_empty_site_mark_or_stamp_is_3() {
         folder.check_nothing_new();
     }
     record(&zeros, &zeros).done();
+}
+
+/// After 1 and 3, and before what the shots are refused with.
+#[test]
+fn camera_number_0_is_15() {
+    let folder = Folder::new();
+    let record = |words: &str| folder.say(&format!("record --number 7 --out out.burst {words}"));
+    for camera in ["0", "00"] {
+        let right = format!("--camera {camera} --key key --site-mark x");
+        for shots in ["--drop", "--keep hex:00 fox"] {
+            let parts = [
+                "the camera number is 0: --camera 0\n",
+                "1 to 4294967295",
+                "Cameras that share a key",
+            ];
+            record(&format!("{right} {shots}")).refused(15, &parts);
+        }
+        record(&right.replace(" x", " hex:00")).refused(3, &["the site mark has 1"]);
+        record(&right.replace("key key", "key fox")).refused(1, &[]);
+        folder.check_nothing_new();
+    }
 }
 
 #[test]
@@ -117,16 +138,27 @@ fn check_refused(folder: &Folder, number: i32, parts: &[&str]) {
 
 #[test]
 fn every_damaged_sealed_byte_is_7_and_leaves_no_output() {
+    for worked in EDITIONS {
+        let folder = Folder::of(&worked);
+        let record = worked.header..worked.index();
+        for at in record.clone().chain(worked.closing()..worked.file.len()) {
+            folder.put("7.burst", &worked.changed(at, 1 << (at % 8)));
+            let parts = match record.contains(&at) {
+                true => RECORD_CHANGED,
+                false => CLOSING_DIFFERS,
+            };
+            check_refused(&folder, 7, &parts);
+        }
+    }
+}
+
+/// The closing seal covers the camera number.
+#[test]
+fn another_camera_number_is_7_at_the_closing_seal() {
     let folder = Folder::new();
-    for at in (32..67).chain(79..111) {
-        let mut file = WORKED;
-        file[at] ^= 1 << (at % 8);
-        folder.put("7.burst", &file);
-        let parts = match at < 67 {
-            true => RECORD_CHANGED,
-            false => CLOSING_DIFFERS,
-        };
-        check_refused(&folder, 7, &parts);
+    for at in 32..36 {
+        folder.put("7.burst", &EDITION_2.changed(at, 0x10));
+        check_refused(&folder, 7, &CLOSING_DIFFERS);
     }
 }
 
@@ -145,9 +177,7 @@ const CLOSING_DIFFERS: [&str; 3] = [
 #[test]
 fn another_key_is_named_only_where_the_closing_seal_differs() {
     let folder = Folder::new();
-    let mut file = WORKED;
-    file[32] ^= 1;
-    folder.put("7.burst", &file);
+    folder.put("7.burst", &EDITION_2.changed(EDITION_2.header, 1));
     let run = folder.say("check --key key 7.burst");
     let run = run.refused(7, &RECORD_CHANGED);
     assert!(!run.err.contains("another key"), "{}", run.err);
@@ -169,30 +199,48 @@ fn another_key_is_7_at_the_closing_seal() {
 
 #[test]
 fn every_cut_is_12_also_for_list_and_explain() {
-    let folder = Folder::new();
-    for length in 0..WORKED.len() {
-        folder.put("7.burst", &WORKED[..length]);
-        let parts = ["a front rule is broken: 7.burst", "burst explain"];
-        let run = folder.say("list 7.burst").refused(12, &parts);
-        assert_eq!(run.out, "front 12\n");
-        folder.say("explain 7.burst").refused(12, &parts[..1]);
-        folder.say("check --key key 7.burst").refused(12, &parts);
-        folder
-            .say("fetch --key key --all all 7.burst")
-            .refused(12, &parts);
+    for worked in EDITIONS {
+        let folder = Folder::of(&worked);
+        for length in 0..worked.file.len() {
+            folder.put("7.burst", &worked.file[..length]);
+            check_front_broken(&folder);
+        }
+        check_refused(&folder, 12, &[]);
     }
-    check_refused(&folder, 12, &[]);
+}
+
+#[test]
+fn another_edition_number_is_12_also_for_list_and_explain() {
+    for worked in EDITIONS {
+        let folder = Folder::of(&worked);
+        for edition in (0..=255).filter(|number| *number != worked.edition as u8) {
+            folder.put("7.burst", &worked.with(0, edition));
+            check_front_broken(&folder);
+        }
+    }
+}
+
+/// Every command refuses `7.burst` with 12.
+fn check_front_broken(folder: &Folder) {
+    let parts = ["a front rule is broken: 7.burst", "burst explain"];
+    let run = folder.say("list 7.burst").refused(12, &parts);
+    assert_eq!(run.out, "front 12\n");
+    folder.say("explain 7.burst").refused(12, &parts[..1]);
+    folder.say("check --key key 7.burst").refused(12, &parts);
+    folder
+        .say("fetch --key key --all all 7.burst")
+        .refused(12, &parts);
 }
 
 #[test]
 fn a_file_longer_than_the_largest_burst_is_12() {
     let folder = Folder::new();
-    let mut file = WORKED.to_vec();
+    let mut file = EDITION_2.file.to_vec();
     file.resize(63_000_000, 0);
     folder.put("7.burst", &file);
     check_refused(&folder, 12, &[]);
     let run = folder.say("explain 7.burst").refused(12, &[]);
-    assert!(run.out.contains("more than 62917264"), "{}", run.out);
+    assert!(run.out.contains("more than 62917272"), "{}", run.out);
 }
 
 #[test]
@@ -224,7 +272,7 @@ fn a_place_not_below_kept_is_13() {
 #[test]
 fn the_key_comes_before_the_front_and_the_front_before_tags() {
     let folder = Folder::new();
-    folder.put("7.burst", &WORKED[..110]);
+    folder.put("7.burst", &EDITION_2.file[..110]);
     folder.put("key", &[9; 16]);
     check_refused(&folder, 12, &[]);
     folder.put("key", &[9; 15]);

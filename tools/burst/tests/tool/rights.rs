@@ -6,7 +6,7 @@ use std::fs;
 
 const FETCH: &str = "fetch --key key --place 0 --out out 7.burst";
 const ALL: &str = "fetch --key key --all all 7.burst";
-const RECORD: &str = "record --key key --number 7 --site-mark x --out out --keep x fox";
+const RECORD: &str = "record --key key --number 7 --camera 3 --site-mark x --out out --keep x fox";
 
 #[test]
 fn force_keeps_the_rights_of_the_old_file() {

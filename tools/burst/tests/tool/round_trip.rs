@@ -1,57 +1,97 @@
 //! Record, list, check and fetch give back what went in.
 
-use crate::folder::{picture, Folder, Run, SITE_MARK, STAMP, WORKED};
+use crate::folder::{picture, Folder, Run, EDITIONS, EDITION_2, NOTE, SITE_MARK, STAMP};
+use std::fs;
 use std::io::Write;
 use std::process::Stdio;
 
-const LISTED: &str = "burst 7\ntaken 3 kept 1 dropped 2\nshot 2 at 32 length 3\n";
+/// What is shown of the worked files, of edition 1 and then of edition 2: the
+/// lines of list, what it says on standard error, and the camera by check.
+const SHOWN: [(&str, &str, &str); 2] = [
+    (
+        "burst 7\ntaken 3 kept 1 dropped 2\nshot 2 at 32 length 3\n",
+        "",
+        "none: the file is of edition 1",
+    ),
+    (
+        "burst 7\ntaken 3 kept 1 dropped 2\nshot 2 at 40 length 3\n",
+        NOTE,
+        "3",
+    ),
+];
 
 #[test]
-fn the_worked_file_is_recorded() {
+fn the_worked_file_of_edition_2_is_recorded() {
     let folder = Folder::new();
     let out = folder
         .record(&["--drop", "--keep", STAMP, "fox", "--drop"])
         .done();
     assert_eq!(
         out,
-        "burst 7 taken 3 kept 1 dropped 2 to out.burst, 111 bytes\n"
+        "burst 7 camera 3 taken 3 kept 1 dropped 2 to out.burst, 119 bytes\n"
     );
-    assert_eq!(folder.get("out.burst"), WORKED);
+    assert_eq!(folder.get("out.burst"), EDITION_2.file);
     assert_eq!(folder.names("."), ["7.burst", "fox", "key", "out.burst"]);
 }
 
 #[test]
-fn the_worked_file_is_listed() {
-    assert_eq!(Folder::new().say("list 7.burst").done(), LISTED);
+fn the_worked_files_are_listed() {
+    for (worked, (lines, note, _)) in EDITIONS.iter().zip(SHOWN) {
+        let run = Folder::of(worked).say("list 7.burst");
+        assert_eq!(run.noted(note), lines);
+    }
 }
 
 #[test]
-fn the_worked_file_is_checked() {
-    let out = Folder::new().say("check --key key 7.burst").done();
-    let expected = format!("burst 7\nsite mark {SITE_MARK}\ntaken 3 kept 1 dropped 2\n");
-    assert_eq!(out, expected);
+fn the_worked_files_are_checked() {
+    for (worked, (_, _, camera)) in EDITIONS.iter().zip(SHOWN) {
+        let out = Folder::of(worked).say("check --key key 7.burst").done();
+        let counts = "taken 3 kept 1 dropped 2";
+        let expected = format!("burst 7\nsite mark {SITE_MARK}\n{counts}\ncamera {camera}\n");
+        assert_eq!(out, expected);
+    }
 }
 
 #[test]
-fn the_worked_picture_is_fetched() {
-    let folder = Folder::new();
-    let out = folder
-        .say("fetch --key key --place 0 --out picture 7.burst")
-        .done();
-    assert_eq!(folder.get("picture"), b"fox");
-    assert!(out.starts_with("shot 2 place 0 length 3 stamp "), "{out}");
-    assert!(out.ends_with(&format!(" {STAMP} to picture\n")), "{out}");
-    assert_eq!(folder.names("."), ["7.burst", "fox", "key", "picture"]);
+fn the_worked_pictures_are_fetched() {
+    for worked in &EDITIONS {
+        let folder = Folder::of(worked);
+        let out = folder
+            .say("fetch --key key --place 0 --out picture 7.burst")
+            .done();
+        assert_eq!(folder.get("picture"), b"fox");
+        assert!(out.starts_with("shot 2 place 0 length 3 stamp "), "{out}");
+        assert!(out.ends_with(&format!(" {STAMP} to picture\n")), "{out}");
+        assert_eq!(folder.names("."), ["7.burst", "fox", "key", "picture"]);
+        folder.say("fetch --key key --all all 7.burst").done();
+        assert_eq!(folder.get("all/shot-002"), b"fox");
+    }
 }
 
 #[test]
 fn a_file_is_read_from_standard_input() {
+    for (worked, (lines, note, _)) in EDITIONS.iter().zip(SHOWN) {
+        let folder = Folder::of(worked);
+        let mut command = folder.command(&["list", "-"]);
+        command.stdin(Stdio::piped()).stdout(Stdio::piped());
+        let mut tool = command.stderr(Stdio::piped()).spawn().unwrap();
+        tool.stdin.take().unwrap().write_all(worked.file).unwrap();
+        let run = Run::of(tool.wait_with_output().unwrap());
+        assert_eq!(run.noted(note), lines);
+    }
+}
+
+/// The list stands without it.
+#[test]
+fn a_camera_number_that_cannot_be_told_is_left_out() {
     let folder = Folder::new();
-    let mut command = folder.command(&["list", "-"]);
-    command.stdin(Stdio::piped()).stdout(Stdio::piped());
-    let mut tool = command.spawn().unwrap();
-    tool.stdin.take().unwrap().write_all(&WORKED).unwrap();
-    assert_eq!(Run::of(tool.wait_with_output().unwrap()).done(), LISTED);
+    let mut command = folder.command(&["list", "7.burst"]);
+    let full = fs::OpenOptions::new()
+        .write(true)
+        .open("/dev/full")
+        .unwrap();
+    let run = Run::of(command.stderr(full).output().unwrap());
+    assert_eq!(run.done(), SHOWN[1].0);
 }
 
 /// Records pictures of these lengths, 0 for a drop, and fetches them all.
@@ -113,11 +153,11 @@ fn one_of_several_places_is_fetched() {
 }
 
 #[test]
-fn an_empty_burst_has_64_bytes_and_no_picture() {
+fn an_empty_burst_has_72_bytes_and_no_picture() {
     let folder = Folder::new();
     folder.record(&[]).done();
-    assert_eq!(folder.get("out.burst").len(), 64);
-    let listed = folder.say("list out.burst").done();
+    assert_eq!(folder.get("out.burst").len(), 72);
+    let listed = folder.say("list out.burst").noted(NOTE);
     assert_eq!(listed, "burst 7\ntaken 0 kept 0 dropped 0\n");
     assert_eq!(folder.say("fetch --key key --all all out.burst").done(), "");
     assert!(folder.names("all").is_empty());
@@ -129,28 +169,66 @@ fn the_burst_number_has_64_bits() {
     let number = u64::MAX;
     folder
         .say(&format!(
-            "record --key key --number {number} --site-mark x --out out.burst --drop"
+            "record --key key --number {number} --camera 3 --site-mark x --out out.burst --drop"
         ))
         .done();
     let out = folder.say("check --key key out.burst").done();
     assert!(out.starts_with("burst 18446744073709551615\n"), "{out}");
 }
 
+/// The file of a camera's burst 7, in which all else is as in another camera's.
+fn file_of_camera(folder: &Folder, camera: &str) -> Vec<u8> {
+    let front = "record --key key --number 7 --site-mark x --out out.burst --force";
+    let shots = "--keep x fox --drop --keep y fox";
+    folder
+        .say(&format!("{front} --camera {camera} {shots}"))
+        .done();
+    folder.get("out.burst")
+}
+
+#[test]
+fn the_camera_number_has_32_bits() {
+    let folder = Folder::new();
+    for camera in ["1", "256", "16909060", "4294967295"] {
+        let file = file_of_camera(&folder, camera);
+        let number: u32 = camera.parse().unwrap();
+        assert_eq!(file[32..36], number.to_le_bytes());
+        let line = format!("camera {camera}\n");
+        folder.say("list out.burst").noted(&line);
+        let checked = folder.say("check --key key out.burst").done();
+        assert!(checked.ends_with(&format!("\n{line}")), "{checked}");
+        let drawn = folder.say("explain out.burst").done();
+        let line = format!("|   camera {camera}, four zeros ");
+        assert!(drawn.contains(&line), "{drawn}");
+    }
+}
+
+/// Each has its own sealed bytes, in records and closing seal.
+#[test]
+fn two_cameras_may_share_key_and_burst_number() {
+    let folder = Folder::new();
+    let files = ["3", "4"].map(|camera| file_of_camera(&folder, camera));
+    let seals = [40..59, 75..94, 134..150];
+    for sealed in seals.clone() {
+        let [ours, theirs] = &files;
+        assert_ne!(ours[sealed.clone()], theirs[sealed]);
+    }
+    assert_eq!(files[0], file_of_camera(&folder, "3"));
+    assert_eq!(files[0].len(), seals[2].end + 16);
+}
+
 #[test]
 fn a_file_of_65536_bytes_is_listed_and_one_more_is_too_long() {
     let folder = Folder::new();
     for (length, status) in [(65_536, 0), (65_537, 65)] {
-        folder.put("large", &picture(length - 64 - 32 - 12, 1));
+        folder.put("large", &picture(length - 72 - 32 - 12, 1));
         folder.record(&["--force", "--keep", "x", "large"]).done();
         assert_eq!(folder.get("out.burst").len(), length);
         let run = folder.say("list out.burst");
         assert_eq!(run.status, status, "{}", run.err);
         if status == 0 {
-            assert!(
-                run.out.ends_with("shot 1 at 32 length 65428\n"),
-                "{}",
-                run.out
-            );
+            let out = run.noted(NOTE);
+            assert!(out.ends_with("shot 1 at 40 length 65420\n"), "{out}");
         } else {
             assert_eq!(run.out, "front too long\n");
             run.failed(65, &["65,536 bytes", "burst explain"]);

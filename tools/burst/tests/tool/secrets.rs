@@ -1,6 +1,6 @@
 //! Keys, stamps and site marks: the forms they are given in, and shown in.
 
-use crate::folder::{Folder, STAMP, WORKED};
+use crate::folder::{Folder, EDITION_2, STAMP};
 
 #[test]
 fn a_key_file_holds_raw_bytes_or_hex_digits() {
@@ -17,7 +17,7 @@ fn a_key_file_holds_raw_bytes_or_hex_digits() {
         folder
             .record(&["--force", "--drop", "--keep", STAMP, "fox", "--drop"])
             .done();
-        assert_eq!(folder.get("out.burst"), WORKED, "{form:?}");
+        assert_eq!(folder.get("out.burst"), EDITION_2.file, "{form:?}");
         folder.say("check --key key out.burst").done();
     }
 }
@@ -40,7 +40,7 @@ fn a_key_on_the_command_line_is_taken_for_a_file() {
 
 /// The file of a burst with this site mark and stamp.
 fn marked(folder: &Folder, site_mark: &str, stamp: &str) -> Vec<u8> {
-    let front = "record --key key --number 1 --out out.burst --force";
+    let front = "record --key key --number 1 --camera 3 --out out.burst --force";
     let rest = ["--site-mark", site_mark, "--keep", stamp, "fox"];
     let words: Vec<&str> = front.split(' ').chain(rest).collect();
     folder.run(&words).done();

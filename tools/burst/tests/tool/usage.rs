@@ -1,6 +1,6 @@
 //! Command lines that are wrong, and help.
 
-use crate::folder::{Folder, SITE_MARK};
+use crate::folder::{Folder, NOTE, SITE_MARK};
 
 const COMMANDS: [&str; 5] = ["record", "list", "check", "fetch", "explain"];
 
@@ -47,10 +47,10 @@ const WRONG: [(&str, &str); 17] = [
 ];
 
 /// A line of `record` that is right, without shots.
-const RECORD: &str = "record --key key --number 7 --site-mark x --out out.burst";
+const RECORD: &str = "record --key key --number 7 --camera 3 --site-mark x --out out.burst";
 
 /// What is put in place of a part of that line, and what is said then.
-const WRONG_RECORD: [(&str, &str, &str); 12] = [
+const WRONG_RECORD: [(&str, &str, &str); 17] = [
     ("--out", "--number 8 --out", "--number is given twice"),
     (
         "--number 7",
@@ -59,6 +59,16 @@ const WRONG_RECORD: [(&str, &str, &str); 12] = [
     ),
     ("7", "18446744073709551616", "is above 18446744073709551615"),
     ("--number 7 ", "", "--number is missing"),
+    ("--out", "--camera 4 --out", "--camera is given twice"),
+    (
+        "--camera 3",
+        "--camera 0x3",
+        "--camera wants decimal digits",
+    ),
+    ("3", "4294967296", "--camera 4294967296 is above 4294967295"),
+    // Cut to 64 or to 32 bits, it would be 3.
+    ("3", "18446744073709551619", "is above 4294967295"),
+    ("--camera 3 ", "", "--camera is missing"),
     (
         "--site-mark x",
         "--site-mark hex:zz",
@@ -117,7 +127,7 @@ fn help_names_every_command_and_status() {
         assert!(own.starts_with(&format!("burst {command} ")), "{own}");
         assert_eq!(own, folder.run(&[command, "-h"]).done());
     }
-    for status in [0, 1, 3, 7, 9, 10, 12, 13, 64, 65, 73, 74] {
+    for status in [0, 1, 3, 7, 9, 10, 12, 13, 15, 64, 65, 73, 74] {
         let found = help
             .lines()
             .any(|line| line.starts_with(&format!("  {status:<2}  ")));
@@ -130,8 +140,23 @@ fn help_names_every_command_and_status() {
 fn help_tells_what_a_user_may_trip_over() {
     let folder = Folder::new();
     for (line, words) in [
-        ("--help", "head -c 16 /dev/urandom > camera.key"),
-        ("--help", "`chmod 600 camera.key`"),
+        ("--help", "head -c 16 /dev/urandom > survey.key"),
+        ("--help", "`chmod 600 survey.key`"),
+        (
+            "--help",
+            "Cameras that share a key have different camera numbers",
+        ),
+        ("--help", "once only, whatever became of the first\n  burst"),
+        (
+            "--help",
+            "write such files must\n  not share a key with each other",
+        ),
+        ("record --help", "the camera number, 1 to 4294967295"),
+        ("list --help", "is told on standard error"),
+        (
+            "check --help",
+            "camera number; a file of edition 1\nhas none",
+        ),
         ("--help", "A dash in place of a file is standard input"),
         ("--help", "A file that is called - is ./-"),
         (
@@ -184,8 +209,8 @@ fn the_version_is_the_package_s() {
 fn names_with_dashes_stand_after_two_dashes() {
     let folder = Folder::new();
     folder.put("--force", &folder.get("7.burst"));
-    folder.say("list -- --force").done();
-    folder.say("list ./--force").done();
+    folder.say("list -- --force").noted(NOTE);
+    folder.say("list ./--force").noted(NOTE);
 }
 
 #[test]
