@@ -1,12 +1,12 @@
 /*
- * Burst files of trail cameras: recording, checking, reading back and listing.
+ * Burst files of trail cameras: sizing up, recording, checking, reading back and listing.
  *
  * The functions are written in Rattle and proved to meet their contracts (crates/burst_c). Link libburst_c.a, which `make lib`
  * leaves beside this header in build/lib. docs/FORMAT.md has the file byte by byte.
  *
  * Machines. The library is for x86-64 Linux, as the Rattle kit builds it, and for no other machine or system.
  *
- * Slices. Every slice is a pointer and a length in bytes. The pointers are valid for their lengths, and slices and numbers that are
+ * Slices. Every slice is a pointer and a length in bytes; that of burst_size_up is a count of 64-bit numbers. The pointers are valid for their lengths, and slices and numbers that are
  * written overlap nothing else that is lent; the proofs assume it. NULL is not allowed, not even with length 0: an empty slice is any
  * other pointer with length 0. Numbers lent by pointer are aligned and not NULL. What a call writes stands at the front of the slice;
  * later bytes stay. All numbers in files, scripts, answers and infos are little-endian.
@@ -16,7 +16,7 @@
  * call writes is settled when it returns; look at it then. A call keeps nothing for the next one, so several threads may call at the
  * same time, each with slices of its own to write to; what is only read they may share.
  *
- * Every call ends on every input. burst_check, burst_fetch, burst_record and burst_list return a refusal number, 0 when done: the
+ * Every call ends on every input. All calls but burst_replay return a refusal number, 0 when done: the
  * number whose condition is the first in the call's order to hold. A refused call leaves each lent slice with the bytes it had; numbers
  * lent by pointer are written on every call. The mark is 0 except under 7, where it says which tag differs: 0 for the closing seal,
  * else the shot number of the record.
@@ -121,6 +121,16 @@ uint32_t burst_fetch(const uint8_t *key, size_t key_len,
 uint32_t burst_record(const uint8_t *key, size_t key_len,
                       const uint8_t *file, size_t file_len, size_t place,
                       uint32_t *mark, uint32_t *offset, uint32_t *size);
+
+/* Sizes up a planned burst before the trigger, without sealing and without a buffer. lengths has one number for each shot in order, the
+ * bytes of its picture, or 0 for a shot that is dropped; count is how many shots there are, 0 to 60. Writes
+ *   *file_length  the bytes of the burst's file, of the edition that burst_replay writes: a buffer of so many bytes takes the whole burst,
+ *                 every keep and drop and the close, and one byte less does not
+ *   *p12, *p6     how often the permutation runs while the burst is recorded, with twelve rounds and with six, the closing seal included
+ * Refusals 9 for more than 60 shots, then 10 for a length above 1,048,576; then all three numbers are 0. The whole list is judged for 9
+ * before a length is looked at. Its time grows with count alone. */
+uint32_t burst_size_up(const uint64_t *lengths, size_t count,
+                       uint64_t *file_length, uint64_t *p12, uint64_t *p6);
 
 /* Writes the listing of a file, as text, to the front of text and its length to *length: burst number, counts, and a line for each kept
  * picture. It needs no key and tests the front only, so a damaged seal does not matter. A file above 65,536 bytes gives

@@ -74,9 +74,14 @@ picture 0 25 5 >marten.ppm
 run ls
 
 echo
-echo "Four shots of one trigger, the second of them dropped, are sealed into one file."
+echo "Before the trigger: what a burst of four shots will take, the second of them dropped. Lengths are enough; nothing is sealed."
+run_line 'burst size $(wc -c <fox.ppm) - $(wc -c <badger.ppm) $(wc -c <marten.ppm) >planned && cat planned'
+
+echo
+echo "Four shots of one trigger, the second of them dropped, are sealed into one file. It has as many bytes as was said."
 run burst record --key survey.key --number 7 --camera 12 --site-mark 'north ridge' --out 7.burst \
     --keep '06:12:00' fox.ppm --drop --keep '06:12:04' badger.ppm --keep '06:12:06' marten.ppm
+run_line 'grep -x "bytes $(wc -c <7.burst)" planned'
 
 echo
 echo "Anyone can list the file and see its layout. Pictures, stamps and site mark stay sealed."

@@ -1,10 +1,10 @@
 -- The laws of a sealed part: its length, opening after sealing, sealing after opening (so that only what was sealed opens), and bytes stay bytes. Then
--- what the calls of `icepole` answer of it. The laws of ICEPOLE-128 are used here and nowhere above.
+-- what the calls of `icepole` answer of it, and how often its sealing calls the permutation. The laws of ICEPOLE-128 are used here and nowhere above.
 -- Assumes nothing.
 use mathlib.Core.Bool.{Bool, true, false, cond, not}
 use mathlib.Core.List.{[], _++_, append-nil}
 use mathlib.Core.Path.{_≡_, refl, sym, ap, ap₂, _∙_}
-use Prim.Native.Nat.{ℕ, _+_, _-_, _≤_}
+use Prim.Native.Nat.{ℕ, suc, _+_, _-_, _≤_}
 use native.Mathlib.Omega.{arith}
 use borrow.Author.Tests.{le-leb}
 use lib.Dec.{eqb}
@@ -14,15 +14,17 @@ use Rattle.bytes_le.proofs.Laws.{put-part, put-put, put-whole, length-put}
 use Rattle.icepole.specs.declared.Opened.{Opened}
 use Rattle.icepole.specs.declared.Variant.the-variants.{Icepole128}
 use Rattle.icepole.specs.Variants.{sizes}
-use Rattle.blocks.specs.Sealing.{sealed, secretOf, messageOf}
+use Rattle.blocks.specs.Sealing.{blocksBefore, sealed, secretOf, messageOf}
 use Rattle.icepole.specs.Answers.{tagAgrees, openedAnswer, sealRefusal, sealOutput, openRefusal, openAnswer, openOutput, fitsOutput}
 use Rattle.icepole.proofs.Numbers.{seal-0, open-0, open-decides}
 use Rattle.blocks.proofs.Opening.{opened, length-sealed, secret-of-sealed, message-of-sealed, tag-of-sealed, length-secret-of, length-message-of, seal-open}
 use Rattle.icepole.proofs.OpenedBytes.{secret-bytes, message-bytes}
+use Rattle.padded_blocks.specs.PaddedBlocks.{callsOf}
+use Rattle.padded_blocks.proofs.Counts.{seal-blocks, seal-calls}
 use Rattle.burst.specs.declared.Edition.{Edition}
 use Rattle.burst.specs.declared.Name.{Name}
 use Rattle.burst.specs.Editions.{maxHeader}
-use Rattle.burst.specs.Parts.{sealLength, nonceOf, sealPart, partAgrees, partMark, partBody, partRefusal, partAnswer, partOutput, keyLength, markLength}
+use Rattle.burst.specs.Parts.{sealLength, nonceOf, partBlocks, partCalls, sealPart, partAgrees, partMark, partBody, partRefusal, partAnswer, partOutput, keyLength, markLength}
 use Rattle.burst.specs.Layout.{Identity, maxPicture, maxIndex, entryBytes, recordBytes, closingSeal}
 use Rattle.burst.proofs.Puts.{length-nonce}
 
@@ -190,3 +192,19 @@ closing-at e key i h x b b₁ b₂ t ys at end u hs ee hl hb e₁ e₂ et eu ey 
     part-at e key (i .name) 0 (i .siteMark) (h ++ x) [] b₂ t ys end u hs (omega arith) et eu ey
     ∙ ap (λ (r : Bytes). putBytes r end s) (e₂ ∙ ap (λ (r : Bytes). putBytes r at x) e₁)
     ∙ put-put (putBytes b 0 h) at x s end ee (rw (length-put b 0 h (omega arith)) (omega arith))
+
+-- ---- how often sealing a part calls the permutation
+-- one P12, and a P6 for each padded block
+pub part-calls : (e : Edition) (key : Bytes) (name : Name) (shot : ℕ) (mark ad body : Bytes)
+    → (callsOf 12 (partCalls e key name shot mark ad body) ≡ 1) × (callsOf 6 (partCalls e key name shot mark ad body) ≡ partBlocks e mark ad body)
+unfolding partCalls partBlocks
+part-calls e key name shot mark ad body = seal-calls (sizes Icepole128 .block) key (nonceOf e name shot) mark ad body
+
+-- lengths alone decide how many blocks there are
+pub part-blocks : (e : Edition) (mark ad body mark′ ad′ body′ : Bytes) → length ad ≡ length ad′ → length body ≡ length body′
+    → partBlocks e mark ad body ≡ partBlocks e mark′ ad′ body′
+unfolding partBlocks
+part-blocks e mark ad body mark′ ad′ body′ ea eb =
+    seal-blocks (sizes Icepole128 .block) mark ad body
+    ∙ ap₂ (λ (a b : ℕ). suc (suc (blocksBefore (sizes Icepole128 .block) a) + suc (blocksBefore (sizes Icepole128 .block) b))) ea eb
+    ∙ sym (seal-blocks (sizes Icepole128 .block) mark′ ad′ body′)

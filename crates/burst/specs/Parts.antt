@@ -1,9 +1,9 @@
--- A sealed part of the burst file: a record, or the closing seal, which has shot number 0 (01, "The burst file"; 02, N1). It holds a mark, which is the stamp or
+-- A sealed part of the burst file: a record, or the closing seal, which has shot number 0 (01, "The burst file"; 02, N1, N4). It holds a mark, which is the stamp or
 -- the site mark, and a body. (The mark that goes with a refusal number is another.)
 -- Here the cipher is chosen; recorder, reader and demand 3 name no variant.
 -- Assumes nothing.
 use mathlib.Core.Bool.{Bool, cond}
-use mathlib.Core.List.{_++_}
+use mathlib.Core.List.{List, _++_}
 use Prim.Native.Nat.{ℕ, _+_, _-_, _<_, _^_}
 use lib.ListN.{length, replicate}
 use Rattle.bytes_le.specs.Bytes.{Bytes, le, putBytes}
@@ -12,6 +12,7 @@ use Rattle.icepole.specs.declared.Variant.the-variants.{Icepole128}
 use Rattle.icepole.specs.Variants.{sizes}
 use Rattle.blocks.specs.Lengths.{tagLength}
 use Rattle.blocks.specs.Sealing.{sealed, secretOf, messageOf}
+use Rattle.padded_blocks.specs.PaddedBlocks.{sealBlocks, Permuting, sealCalls}
 use Rattle.icepole.specs.Answers.{tagAgrees, openedAnswer, unless}
 use Rattle.burst.specs.declared.Edition.{Edition}
 use Rattle.burst.specs.declared.Name.{Name}
@@ -47,10 +48,18 @@ unfoldable pub nonceOf : Edition → Name → (shot : ℕ) → Bytes
 nonceOf e name shot =
     le burstNumberWidth (name .«burst_number») ++ (le countWidth shot ++ (le cameraWidth (name .camera) ++ replicate 2 0))
 
+-- how many padded blocks sealing a part absorbs (02, N4)
+unfoldable pub partBlocks : Edition → (mark associated body : Bytes) → ℕ
+partBlocks e mark associated body = sealBlocks (sizes Icepole128 .block) mark associated body
+
 module _ (e : Edition) (key : Bytes) (name : Name) (shot : ℕ) where
   -- ---- sealing: ICEPOLE-128, with the mark as the secret number and the body as the message
   unfoldable pub sealPart : (mark associated body : Bytes) → Bytes
   sealPart mark associated body = sealed (sizes Icepole128) key (nonceOf e name shot) mark associated body
+
+  -- the calls of the permutation that this makes
+  unfoldable pub partCalls : (mark associated body : Bytes) → List Permuting
+  partCalls mark associated body = sealCalls (sizes Icepole128 .block) key (nonceOf e name shot) mark associated body
 
   -- ---- opening the sealed bytes c: whether the tag agrees, the mark, and the body
   module _ (associated c : Bytes) where

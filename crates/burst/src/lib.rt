@@ -11,10 +11,10 @@ ghost use mathlib.Core.Path.{_≡_};
 ghost use mathlib.Core.List.{_++_};
 ghost use Prim.Native.Nat.{_+_, _-_, _*_, _≤_, _<_, _^_};
 ghost use lib.ListN.{length, take, replicate};
-ghost use Rattle.bytes_le.specs.Bytes.{putBytes};
+ghost use Rattle.bytes_le.specs.Bytes.{Bytes, putBytes};
 ghost use Rattle.burst.specs.Fields.{offsetWidth, entryLength};
 ghost use Rattle.burst.specs.Editions.{Known, numbered, written, noCamera, maxEntries, maxHeader};
-ghost use Rattle.burst.specs.Parts.{sealLength, nonceOf, sealPart, partAnswer, partOutput, keyLength, markLength};
+ghost use Rattle.burst.specs.Parts.{sealLength, nonceOf, partBlocks, sealPart, partAnswer, partOutput, keyLength, markLength};
 ghost use Rattle.burst.specs.Layout.{identified, maxPicture, maxIndex, headerBytes, recordBytes, closingSeal};
 ghost use Rattle.burst.specs.Numbers.{beginNumber, keepNumber, dropNumber, closeNumber};
 ghost use Rattle.burst.specs.Index.{entryOf, entryRules, indexRules, bytesOfEntry};
@@ -134,7 +134,7 @@ const WRITTEN: u16 = NUMBER_2;
 // Bytes of the longest header of any row.
 pub const MAX_HEADER: usize = HEADER_2 as usize;
 
-const MAX_PICTURE: u32 = 1048576;
+pub const MAX_PICTURE: u32 = 1048576;
 
 // Entries of a recorder, the most shots of any row, and bytes of an index of so many entries.
 pub const MAX_ENTRIES: usize = SHOTS_2 as usize;
@@ -278,7 +278,7 @@ pub fn edition_numbered(number: u16) -> Edition
 }
 
 // The row that the writer makes, from the key's length.
-fn edition_written(key: usize) -> Edition
+pub fn edition_written(key: usize) -> Edition
     ensures { λ e. ⌜ (e ≡ written key) × Known e ⌝ }
 {
     edition_numbered(WRITTEN)
@@ -516,6 +516,16 @@ fn seal_part(
         body,
         out,
     );
+}
+
+// How many padded blocks sealing a part absorbs, from the lengths of its associated data and its body (02, N4).
+pub fn part_blocks(e: Edition, associated: usize, body: usize) -> usize
+    requires { ⌜ (associated ≤ maxHeader + maxIndex) × (body ≤ maxPicture) ⌝ }
+    ensures { λ k. ⌜ ((mark ad m : Bytes) → length ad ≡ associated → length m ≡ body → k ≡ partBlocks e mark ad m)
+        × (k ≤ associated + body + 3) ⌝ }
+{
+    let q = icepole::sizes_of(Variant::Icepole128);
+    padded_blocks::seal_blocks(q.block, associated, body)
 }
 
 // Verifies a part: its mark and the length of its body, or 7. It writes nothing.

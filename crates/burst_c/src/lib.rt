@@ -16,6 +16,7 @@ ghost use lib.ListN.{length};
 ghost use Rattle.bytes_le.specs.Bytes.{putBytes};
 ghost use Rattle.reader.specs.Reader.{checkMark, recordRefusal, recordOffset, recordBytesIn};
 ghost use Rattle.listing.specs.Listing.{listRefusal, listAnswer, listOutput};
+ghost use Rattle.sizing.specs.Sizing.{sizeAnswer};
 ghost use Rattle.replay.specs.Replay.{listOf, wholeScript, Replayed};
 ghost use Rattle.burst_c.specs.Calls.{checkInfoLength, checkedBytes, fetchInfoLength, fetchedBytes, checkCallRefusal};
 ghost use Rattle.burst_c.specs.Calls.{checkCallInfo, placeOf, fetchCallRefusal, fetchCallOutput, fetchCallInfo};
@@ -186,4 +187,24 @@ pub extern "C" fn burst_list(file: &[u8], text: &mut [u8], size: &mut u32) -> u3
     let r = listing::list_front(file, text);
     *size = r.length as u32;
     r.refusal
+}
+
+#[no_mangle]
+pub extern "C" fn burst_size_up(
+    lengths: &[u64],
+    file_length: &mut u64,
+    p12: &mut u64,
+    p6: &mut u64,
+) -> u32
+    ensures { λ n. ⌜
+        (n ≡ sizeAnswer (now (lengths .entry)) .refusal) ×
+        (now («file_length» .exit) ≡ sizeAnswer (now (lengths .entry)) .«file_length») ×
+        (now (p12 .exit) ≡ sizeAnswer (now (lengths .entry)) .p12) ×
+        (now (p6 .exit) ≡ sizeAnswer (now (lengths .entry)) .p6) ⌝ }
+{
+    let s = sizing::size_up(lengths);
+    *file_length = s.file_length;
+    *p12 = s.p12;
+    *p6 = s.p6;
+    s.refusal
 }

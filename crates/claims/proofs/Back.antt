@@ -9,7 +9,7 @@ use native.Mathlib.Omega.{arith}
 use native.Mathlib.Nat.{add-zero}
 use borrow.Author.Tests.{le-leb, eq-eqb, ne-eqb}
 use lib.Dec.{eqb}
-use lib.ListN.{length, take, drop, length-append, length-replicate}
+use lib.ListN.{length, take, drop, length-replicate}
 use lib.Seq.{take-at, drop-at, drop-drop}
 use Rattle.bytes_le.specs.Bytes.{Bytes, putBytes}
 use Rattle.bytes_le.proofs.Laws.{take-put}
@@ -20,11 +20,10 @@ use Rattle.burst.specs.Editions.{maxEntries, numbered, hasCamera, cameraHeld, n
 use Rattle.burst.specs.Parts.{partAgrees, partMark, keyLength, markLength}
 use Rattle.burst.specs.Layout.{maxPicture, Identity, headerBytes, recordBytes, closingSeal}
 use Rattle.burst.specs.Index.{indexRules}
-use Rattle.trace.specs.Plain.{Firing, kept, gap, pictures, gaps, usedBy, records, index, Plain, headerOf, indexOf, fileOf, CallList, plainOf}
+use Rattle.trace.specs.Plain.{Firing, kept, gap, pictures, gaps, usedBy, records, index, Plain, totalOf, headerOf, indexOf, fileOf, CallList, plainOf}
 use Rattle.bits.proofs.Cases.{zero-or-not}
 use Rattle.burst.proofs.Rows.{known, written-among, camera-held}
 use Rattle.burst.proofs.Numbers.{begins}
-use Rattle.burst.proofs.Puts.{length-header}
 use Rattle.burst.proofs.Parts.{part-agrees, part-mark}
 use Rattle.reader.specs.declared.Checked.{Checked}
 use Rattle.reader.specs.declared.Verdict.the-variants.{Agree}
@@ -37,6 +36,7 @@ use Rattle.reader.proofs.Answers.{check-not, check-zero, check-0, checked-refus
 use Rattle.reader.proofs.Answers.{found, record-zero, record-refused, record-done, fetch-0, fetch-not, fetch-refused}
 use Rattle.trace.specs.Agreement.{editionFor}
 use Rattle.trace.proofs.Agreement.{agreement}
+use Rattle.trace.proofs.Seals.{length-file}
 use Rattle.trace.proofs.Shots.{Valid, pictures-gaps, used-least, used-most, length-index, length-records, length-closing, sound-entries}
 use Rattle.claims.specs.Demand3.{SameBurst, Filed, OneBurst, Picture, pictureAt, whole, readFrom, readShots, GivenBack, GivesBack, OnCard, Withheld, Withholds}
 use Rattle.claims.proofs.Lists.{fine}
@@ -100,18 +100,14 @@ module _ (ed : Edition) (known-ed : Known ed) (p : Plain) (valid : Valid (p .sho
   length-cl : length cl ≡ 0 + 32
   length-cl = length-closing ed (p .key) (p .identity) hd ix site16
 
-  length-file : length f ≡ u + 12 * pictures xs + 32
-  length-file =
-      let a = length-header ed known-ed (p .identity .name) (length xs) (pictures xs) (gaps xs) u in
-      let b = length-records ed (p .key) (p .identity .name) 1 (ed .header) xs valid in
-      let c = length-index 1 (ed .header) xs in
-      let d = length-cl in
-      ap length split ∙ simp length-append (omega arith)
+  length-f : length f ≡ u + 12 * pictures xs + 32
+  unfolding totalOf
+  length-f = length-file ed known-ed p valid site16
 
   front-holds : frontRules f ≡ true
   front-holds =
       let a = used-least (ed .header) xs in
-      let lf = length-file in
+      let lf = length-f in
       let h = headed in
       sym (front-at ed f (sym row))
       ∙ sym

@@ -8,7 +8,7 @@ use Prim.Native.Nat.{ℕ, suc, _+_, _-_, _≤_, _<_}
 use native.Mathlib.Omega.{arith}
 use borrow.Author.Tests.{eq-eqb, ne-eqb, le-ltb, lt-ltb, leb-false, not-true, not-false}
 use lib.Dec.{eqb, leb, ltb}
-use lib.ListN.{length, drop}
+use lib.ListN.{length, getD, drop}
 use Rattle.bytes_le.specs.Bytes.{Bytes}
 use Rattle.icepole.specs.declared.Variant.{Variant}
 use Rattle.icepole.specs.declared.Variant.the-variants.{Icepole128}
@@ -45,6 +45,8 @@ use Rattle.rounds_back.specs.declared.Driven.{Driven}
 use Rattle.rounds_back.specs.declared.Direction.{Direction}
 use Rattle.core_c.specs.Calls.{callRefusal, callAgrees, callRound}
 use Rattle.core_c.proofs.Rounds.{refused-leaves}
+use Rattle.sizing.specs.Sizing.{sizedEdition, tooLong, sizeNumber, sizeAnswer}
+use Rattle.sizing.proofs.Numbers.{long-found, long-none}
 use Rattle.round_log.specs.RoundLog.{verdict as logVerdict}
 use Rattle.round_log.specs.declared.Verdict.{Verdict}
 use Rattle.round_log.specs.declared.Verdict.the-variants.{Agrees, Differs, Refused}
@@ -52,7 +54,7 @@ use Rattle.round_log.proofs.Verdicts.{Says, says}
 use Rattle.claims.specs.RoundLogs.{LogOf}
 use Rattle.claims.specs.Demand1.{Refusal, _on_, FirstOf, SealNumber, Seal, orderOfOpen, orderOfVerify, OpenNumber, NoRoomToOpen, Verify, Open, OpenCall}
 use Rattle.claims.specs.Demand1.{OpenInPlace, OpenInPlaceCall, orderOfStart, StartNumber, Start, orderOfStrip, Strip, orderOfEnd, End, StartCall, StripCall, EndCall, Begin, Keep, Drop, Close}
-use Rattle.claims.specs.Demand1.{InList, orderOfCheck, Check, orderAtPlace, Record, NoRoomToFetch, Fetch, CheckCall, FetchCall, Print, CheckLog, Drive, RunRounds, Demand1}
+use Rattle.claims.specs.Demand1.{InList, orderOfCheck, Check, orderAtPlace, Record, NoRoomToFetch, Fetch, CheckCall, FetchCall, Print, CheckLog, Drive, RunRounds, SizeUpCall, Demand1}
 use Rattle.claims.proofs.Orders.{Tells, differs, equals, less, at-most, fails, holds, either, first, Row, row, by-tests, NoZero, behind, then-tests}
 
 one-more : (n : ℕ) → suc n ≢ 0
@@ -484,6 +486,18 @@ runs-rounds-in-c d r b =
       refused = λ h. sym (refused-leaves d r b _ refl h);
     }
 
+-- ---- sizing up
+long : (ns : List ℕ) → Tells (tooLong ns) ((i : ℕ) × (i < length ns) × (1048576 < getD ns i 0))
+long ns = record { yes = long-found ns; no′ = λ h f. let g = long-none ns h (f .0) (f .1) in let l = f .2 in omega arith }
+
+sizes-up : (lengths : List ℕ) → SizeUpCall lengths
+unfolding sizeAnswer sizeNumber written
+sizes-up lengths =
+    record {
+      order = by-tests (row 9 (less 60 (length lengths)) ∷ row 10 (long lengths) ∷ []);
+      refused = λ h. simp (ne-eqb (sizeNumber sizedEdition lengths) 0 h);
+    }
+
 pub demand1 : Demand1
 demand1 = record {
   seal-number = seal-number;
@@ -515,4 +529,5 @@ demand1 = record {
   judges = judges;
   drives = drives;
   runs-rounds-in-c = runs-rounds-in-c;
+  sizes-up = sizes-up;
 }

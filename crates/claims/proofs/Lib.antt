@@ -17,3 +17,4 @@ pub mod Back
 pub mod Accept
 pub mod Demand3
 pub mod OneKey
+pub mod SizeUp

@@ -13,7 +13,7 @@ use mathlib.Core.List.{List, [], _∷_, _++_}
 use mathlib.Core.Logic.{_⊎_, _≢_}
 use mathlib.Core.Path.{_≡_}
 use Prim.Native.Nat.{ℕ, _+_, _-_, _≤_, _<_}
-use lib.ListN.{length, replicate}
+use lib.ListN.{length, getD, replicate}
 use Rattle.bytes_le.specs.Bytes.{Bytes, putBytes}
 use Rattle.icepole.specs.declared.Variant.{Variant}
 use Rattle.icepole.specs.declared.Variant.the-variants.{Icepole128}
@@ -42,6 +42,8 @@ use Rattle.reader.specs.Reader.{recordRefusal, recordOffset, recordBytesIn, fet
 use Rattle.listing.specs.declared.Listed.{Listed}
 use Rattle.listing.specs.Listing.{listing, textRoom, listRefusal, listAnswer, listOutput}
 use Rattle.burst_c.specs.Calls.{checkInfoLength, fetchInfoLength, checkCallRefusal, checkCallInfo, fetchCallRefusal, fetchCallOutput, fetchCallInfo}
+use Rattle.sizing.specs.declared.Size.{Size}
+use Rattle.sizing.specs.Sizing.{sizeAnswer}
 use Rattle.round_log.specs.RoundLog.{verdict}
 use Rattle.permutation.specs.State.{State}
 use Rattle.rounds_back.specs.Driven.{driven}
@@ -413,6 +415,15 @@ module _ (d : Direction) (r : ℕ) (b : Bytes) where
     pub order : FirstOf (roundsRefusal r (length b)) (orderOfRounds r (length b))
     pub refused : roundsRefusal r (length b) ≢ 0 → afterRounds d r b ≡ b
 
+-- ---- sizing up: 9 for the whole list, then 10 for a length (02, N4). The numbers that the C call writes are those of the answer
+module _ (lengths : List ℕ) where
+  abbrev size : Size
+  size = sizeAnswer lengths
+
+  pub record SizeUpCall : Type 0 where
+    pub order : FirstOf (size .refusal) ((9 on (60 < length lengths)) ∷ (10 on ((i : ℕ) × (i < length lengths) × (1048576 < getD lengths i 0))) ∷ [])
+    pub refused : size .refusal ≢ 0 → size ≡ record { refusal = size .refusal; mark = 0; «file_length» = 0; p12 = 0; p6 = 0 }
+
 pub record Demand1 : Type 0 where
   pub seal-number : SealNumber
   pub seals : (v : Variant) (key nonce secret ad m out : Bytes) → Seal v key nonce secret ad m out
@@ -443,3 +454,4 @@ pub record Demand1 : Type 0 where
   pub judges : (log : Bytes) → CheckLog log
   pub drives : (d : Direction) (s : State) (r : ℕ) → Drive d s r
   pub runs-rounds-in-c : (d : Direction) (r : ℕ) (b : Bytes) → RunRounds d r b
+  pub sizes-up : (lengths : List ℕ) → SizeUpCall lengths

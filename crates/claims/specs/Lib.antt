@@ -10,3 +10,4 @@ pub mod Demand1
 pub mod StripLists
 pub mod Demand3
 pub mod OneKey
+pub mod SizeUp

@@ -1,2 +1,3 @@
 pub mod Shots
+pub mod Seals
 pub mod Agreement

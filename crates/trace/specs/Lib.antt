@@ -1,3 +1,4 @@
 pub mod Plain
+pub mod Seals
 pub mod Trace
 pub mod Agreement

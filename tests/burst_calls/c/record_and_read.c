@@ -1,7 +1,7 @@
-/* The scope paper's example burst, recorded and read back through the C calls
-   as the firmware of camera 3 makes them: burst 7, drop, keep of 3 bytes, drop.
-   Every buffer is its own piece of the heap, exactly as long as it must be,
-   so that a memory checker sees a call that reads or writes past it. */
+/* The scope paper's example burst, recorded, read back and sized up through the
+   C calls as the firmware of camera 3 makes them: burst 7, drop, keep of 3
+   bytes, drop. Every buffer is its own piece of the heap, exactly as long as it
+   must be, so that a memory checker sees a call that reads or writes past it. */
 
 #include <stdio.h>
 #include <stdlib.h>
@@ -39,6 +39,7 @@ static const uint8_t expected_answers[ANSWERS] = {
 /* What stands in a buffer that no call has written, and in a number. */
 static const uint8_t FILL = 0xA5;
 static const uint32_t FILL_NUMBER = 0xA5A5A5A5;
+static const uint64_t FILL_WIDE = 0xA5A5A5A5A5A5A5A5;
 
 static uint8_t *allocate(size_t length)
 {
@@ -80,6 +81,20 @@ static uint32_t *number(void)
     return lent;
 }
 
+/* Numbers of 64 bits. */
+static uint64_t *wide_numbers(size_t count)
+{
+    uint64_t *lent = malloc(count * sizeof *lent);
+    if (lent == NULL) {
+        puts("no memory");
+        exit(1);
+    }
+    for (size_t i = 0; i < count; i++) {
+        lent[i] = FILL_WIDE;
+    }
+    return lent;
+}
+
 static int is_filled(const uint8_t *bytes, size_t length)
 {
     for (size_t i = 0; i < length; i++) {
@@ -97,6 +112,7 @@ struct lent {
     uint8_t *script, *file, *answers;
     uint8_t *check_info, *fetch_info, *out;
     uint32_t *mark, *offset, *size, *whole;
+    uint64_t *file_length, *p12, *p6;
 };
 
 static struct lent lend(void)
@@ -116,6 +132,9 @@ static struct lent lend(void)
     l.offset = number();
     l.size = number();
     l.whole = number();
+    l.file_length = wide_numbers(1);
+    l.p12 = wide_numbers(1);
+    l.p6 = wide_numbers(1);
     return l;
 }
 
@@ -135,6 +154,9 @@ static void give_back(struct lent *l)
     free(l->offset);
     free(l->size);
     free(l->whole);
+    free(l->file_length);
+    free(l->p12);
+    free(l->p6);
 }
 
 /* Drop, keep, drop, close. */
@@ -487,11 +509,100 @@ static const char *read_short(struct lent *l)
     return NULL;
 }
 
+/* Sizes up a list: whether the number and the three written are these. */
+static int sized(struct lent *l, const uint64_t *lengths, size_t count,
+                 uint32_t refusal, uint64_t file_length, uint64_t p12, uint64_t p6)
+{
+    *l->file_length = FILL_WIDE;
+    *l->p12 = FILL_WIDE;
+    *l->p6 = FILL_WIDE;
+    return burst_size_up(lengths, count, l->file_length, l->p12, l->p6) == refusal &&
+           *l->file_length == file_length && *l->p12 == p12 && *l->p6 == p6;
+}
+
+/* The example is sized up before the trigger, and then recorded in a buffer of
+   exactly the bytes that were said. */
+static const char *size_and_record(struct lent *l)
+{
+    static const uint64_t planned[] = {0, PICTURE, 0};
+    const size_t count = sizeof planned / sizeof planned[0];
+    const char *wrong = NULL;
+    uint64_t *lengths = wide_numbers(count);
+    uint8_t *answers = filled(ANSWERS);
+    uint8_t *buffer = NULL;
+
+    memcpy(lengths, planned, sizeof planned);
+    /* Two seals. Blocks of the record: stamp, entry, picture. Of the closing
+       seal: site mark, header with index, and the empty message. */
+    if (!sized(l, lengths, count, BURST_DONE, TOTAL, 2, 3 + 3)) {
+        wrong = "the size of the example differs";
+    } else if (memcmp(lengths, planned, sizeof planned) != 0) {
+        wrong = "sizing up wrote to the list";
+    } else {
+        const size_t room = (size_t)*l->file_length;
+        buffer = filled(room);
+        replay(l, CAMERA, l->script, SCRIPT, buffer, room, answers, ANSWERS);
+        if (*l->whole != 1 || memcmp(answers, expected_answers, ANSWERS) != 0 ||
+            memcmp(buffer, l->file, TOTAL) != 0) {
+            wrong = "a buffer of the size that was said did not take the burst";
+        }
+    }
+    free(buffer);
+    free(answers);
+    free(lengths);
+    return wrong;
+}
+
+/* Lists of one length, whose last may be another, and what is said of them. */
+static const struct plan {
+    size_t count;
+    uint64_t length, last;
+    uint32_t refusal;
+    uint64_t file_length, p12, p6;
+} plans[] = {
+    {0, 0, 0, BURST_DONE, BURST_MIN_WRITTEN_BYTES, 1, 3},
+    {1, 0, 0, BURST_DONE, BURST_MIN_WRITTEN_BYTES, 1, 3},
+    {1, 0, 128, BURST_DONE, 244, 2, 6},
+    {1, 0, 129, BURST_DONE, 245, 2, 7},
+    {7, 1, 1, BURST_DONE, 387, 8, 24},
+    {8, 1, 1, BURST_DONE, 432, 9, 28},
+    {BURST_MAX_SHOTS, 0, 0, BURST_DONE, BURST_MIN_WRITTEN_BYTES, 1, 3},
+    {BURST_MAX_SHOTS, BURST_MAX_PICTURE_BYTES, BURST_MAX_PICTURE_BYTES, BURST_DONE,
+     62917272, 61, 491648},
+    {BURST_MAX_SHOTS + 1, 0, 0, BURST_FULL, 0, 0, 0},
+    {BURST_MAX_SHOTS + 1, 0, BURST_MAX_PICTURE_BYTES + 1, BURST_FULL, 0, 0, 0},
+    {BURST_MAX_SHOTS + 1, UINT64_MAX, 0, BURST_FULL, 0, 0, 0},
+    {1, 0, BURST_MAX_PICTURE_BYTES + 1, BURST_PICTURE_LENGTH, 0, 0, 0},
+    {BURST_MAX_SHOTS, 1, BURST_MAX_PICTURE_BYTES + 1, BURST_PICTURE_LENGTH, 0, 0, 0},
+    {BURST_MAX_SHOTS, UINT64_C(1) << 32, 1, BURST_PICTURE_LENGTH, 0, 0, 0},
+};
+
+/* Each list ends where its piece of the heap does. */
+static const char *size_plans(struct lent *l)
+{
+    const char *wrong = NULL;
+
+    for (size_t i = 0; wrong == NULL && i < sizeof plans / sizeof plans[0]; i++) {
+        const struct plan *p = &plans[i];
+        uint64_t *lengths = wide_numbers(p->count + 1);
+        for (size_t shot = 1; shot <= p->count; shot++) {
+            lengths[shot] = shot == p->count ? p->last : p->length;
+        }
+        if (!sized(l, lengths + 1, p->count, p->refusal, p->file_length, p->p12, p->p6)) {
+            wrong = p->refusal == BURST_DONE ? "the size of a list differs"
+                                             : "a list was not refused as it must be";
+        }
+        free(lengths);
+    }
+    return wrong;
+}
+
 int main(void)
 {
     static const char *(*const steps[])(struct lent *) = {
         record, record_short, record_parts, record_no_call, record_begins,
         read_back, read_list, read_changed, read_cut, read_short,
+        size_and_record, size_plans,
     };
     struct lent l = lend();
     const char *wrong = NULL;

@@ -1,5 +1,6 @@
 //! Slices and numbers that are lent to a call and looked at afterwards.
 
+use std::fmt::Debug;
 use std::hint::black_box;
 use std::ops::Range;
 
@@ -77,34 +78,45 @@ impl Lent {
     }
 }
 
-/// What stands in a lent number before the call; no call gives it.
-const UNWRITTEN: u32 = 0xA5A5_A5A5;
-
-/// A number lent by pointer, between two others that no call may write.
-pub struct LentNumber {
-    numbers: [u32; 3],
+/// A number that a call writes, of 32 or of 64 bits.
+pub trait Number: Copy + Debug + PartialEq {
+    /// What stands in a lent number before the call; no call gives it.
+    const UNWRITTEN: Self;
 }
 
-impl Default for LentNumber {
+impl Number for u32 {
+    const UNWRITTEN: u32 = 0xA5A5_A5A5;
+}
+
+impl Number for u64 {
+    const UNWRITTEN: u64 = 0xA5A5_A5A5_A5A5_A5A5;
+}
+
+/// A number lent by pointer, between two others that no call may write.
+pub struct LentNumber<N> {
+    numbers: [N; 3],
+}
+
+impl<N: Number> Default for LentNumber<N> {
     fn default() -> Self {
         LentNumber {
-            numbers: [UNWRITTEN; 3],
+            numbers: [N::UNWRITTEN; 3],
         }
     }
 }
 
-impl LentNumber {
-    pub fn lent(&mut self) -> &mut u32 {
+impl<N: Number> LentNumber<N> {
+    pub fn lent(&mut self) -> &mut N {
         &mut self.numbers[1]
     }
 
     /// The number after the call. If it was not written, it is one that no
     /// call gives.
-    pub fn after(&self) -> u32 {
+    pub fn after(&self) -> N {
         // All three are read anew: the compiler may not take it that a call
         // leaves what stands beside the lent number.
         let [before, number, after] = *black_box(&self.numbers);
-        assert_eq!([before, after], [UNWRITTEN; 2], "beside a lent number");
+        assert_eq!([before, after], [N::UNWRITTEN; 2], "beside a lent number");
         number
     }
 }

@@ -8,13 +8,16 @@ pub mod page;
 pub mod random_front;
 pub mod random_list;
 pub mod random_read;
+pub mod random_size;
 pub mod reading;
 pub mod recording;
 pub mod script;
+pub mod sizing;
 
 use lent::LentNumber;
 use proved_calls::burst;
 use reference::burst::reader::RecordPart;
+use reference::burst::Size;
 
 /// Begin and the calls of a script: the count of answers written, and the
 /// number that says whether the whole script was performed.
@@ -74,4 +77,17 @@ pub fn list_front(file: &[u8], text: &mut [u8]) -> (u32, u32) {
     let mut length = LentNumber::default();
     let number = burst::list(file, text, length.lent());
     (number, length.after())
+}
+
+/// Number, and the three numbers written, of sizing up a burst.
+pub fn size_up(lengths: &[u64]) -> (u32, Size) {
+    let mut file_length = LentNumber::default();
+    let (mut p12, mut p6) = (LentNumber::default(), LentNumber::default());
+    let number = burst::size_up(lengths, file_length.lent(), p12.lent(), p6.lent());
+    let size = Size {
+        file_length: file_length.after(),
+        p12: p12.after(),
+        p6: p6.after(),
+    };
+    (number, size)
 }

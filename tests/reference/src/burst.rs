@@ -4,18 +4,21 @@
 //!
 //! `plain` works a list of calls out from its arguments and the buffer's
 //! length alone. `recorder` does the same calls on a real buffer. `reader`
-//! checks a file and gives it back, `lister` prints its front. `plain` shares
-//! only numbers with the others: it lays out its file by itself.
+//! checks a file and gives it back, `lister` prints its front. `size_up` says
+//! beforehand what recording uses (request N4). `plain` shares only numbers with
+//! the others: it lays out its file by itself.
 
 pub mod layout;
 pub mod lister;
 pub mod plain;
 pub mod reader;
 pub mod recorder;
+pub mod size_up;
 
 pub use layout::{Edition, Entry, Header, EDITIONS, EDITION_1, EDITION_2};
 pub use plain::{Call, PlainBurst};
 pub use recorder::Recorder;
+pub use size_up::{size_up, Size};
 
 /// What begin, keep, drop and close answer: the refusal number (0 when
 /// accepted), its mark, and the shot number of keep and drop or the total of

@@ -2,9 +2,11 @@
 //!
 //! `bits` follows the definitions bit by bit. `words` does the same steps on
 //! 64 bit positions at once. Both have the same function names, but for
-//! `steps`, the states within a round, which `bits` alone has.
+//! `steps`, the states within a round, which `bits` alone has. `calls` counts
+//! the calls of P12 and P6.
 
 pub mod bits;
+pub mod calls;
 pub mod tables;
 pub mod words;
 

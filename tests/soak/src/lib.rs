@@ -7,6 +7,7 @@ use std::panic::{catch_unwind, AssertUnwindSafe};
 use burst_calls::random_front::front_call;
 use burst_calls::random_list::{check_recording, random_recording, recording_of_any_bytes};
 use burst_calls::random_read::read_call;
+use burst_calls::random_size::size_call;
 use burst_calls::recording::Recording;
 use c_calls::random::{good_case, open_call, open_in_place_call, seal_call};
 use c_calls::random_strips::{calls_on_state, random_list, random_state};
@@ -92,7 +93,7 @@ pub fn try_case(seed: u64, tally: &mut Tally) {
     let generator = &mut generator;
     let variant = Variant::ALL[generator.below(3)];
     let what = || format!("seed {seed}");
-    let read = match generator.below(29) {
+    let read = match generator.below(30) {
         0..4 => {
             good_case(generator, variant);
             tally.add("seal", 0);
@@ -107,7 +108,8 @@ pub fn try_case(seed: u64, tally: &mut Tally) {
         20 => return try_log(generator, &what, tally),
         21 => return try_rounds(generator, &what, tally),
         22..25 => return tally.add("open_in_place", open_in_place_call(generator, variant)),
-        25..28 => read_call(generator, &what),
+        25 => return tally.add("size_up", size_call(generator, &what)),
+        26..29 => read_call(generator, &what),
         _ => front_call(generator, &what),
     };
     let names = ["check", "fetch", "record", "list", "edition"];

@@ -10,7 +10,7 @@ use soak::{run, try_case};
 /// one buffer. List's 12 is the text `front 12`. Whole says of a script whether all
 /// of it was performed, agrees of a round log whether every round does, and edition
 /// which one a file has that check accepted, or 0.
-const EXPECTED: [(&str, &[u32]); 20] = [
+const EXPECTED: [(&str, &[u32]); 21] = [
     ("agrees", &[0, 1]),
     ("begin", &[0, 1, 3, 11, 15]),
     ("check", &[0, 1, 5, 7, 12]),
@@ -28,6 +28,7 @@ const EXPECTED: [(&str, &[u32]); 20] = [
     ("rounds_back", &[0, 5, 20]),
     ("rounds_forward", &[0, 5, 20]),
     ("seal", &[0, 1, 2, 3, 5]),
+    ("size_up", &[0, 9, 10]),
     ("start", &[0, 1, 2, 3, 5]),
     ("strip", &[0, 4, 5, 14]),
     ("whole", &[0, 1]),

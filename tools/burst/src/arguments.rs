@@ -26,6 +26,11 @@ pub enum Command {
     Explain {
         file: Input,
     },
+    /// The lengths of planned pictures, 0 for a dropped shot.
+    Size {
+        lengths: Vec<u64>,
+        measure: bool,
+    },
 }
 
 pub struct Record {
@@ -78,7 +83,7 @@ struct Reader {
     read: fn(Given) -> Result<Command, Failure>,
 }
 
-const READERS: [Reader; 5] = [
+const READERS: [Reader; 6] = [
     Reader {
         name: "record",
         help: help::RECORD,
@@ -133,6 +138,18 @@ const READERS: [Reader; 5] = [
         read: |given| {
             Ok(Command::Explain {
                 file: given.file()?,
+            })
+        },
+    },
+    Reader {
+        name: "size",
+        help: help::SIZE,
+        options: &[("--measure", &[])],
+        read: |given| {
+            let lengths = given.others.iter().map(|word| given.length(word));
+            Ok(Command::Size {
+                lengths: lengths.collect::<Result<_, _>>()?,
+                measure: given.flag("--measure"),
             })
         },
     },
@@ -288,11 +305,29 @@ impl Given {
         }
     }
 
-    /// The number of an option that is given once, at most the largest of its type.
-    fn number<N: FromStr + Display>(&self, name: &str, largest: N) -> Result<N, Failure> {
-        let digits = self.digits(name, self.one(name)?)?;
+    /// The number of a word, at most the largest of its type.
+    fn number_of<N: FromStr + Display>(
+        &self,
+        name: &str,
+        word: &OsStr,
+        largest: N,
+    ) -> Result<N, Failure> {
+        let digits = self.digits(name, word)?;
         let too_large = |_| self.wrong(format!("{name} {digits} is above {largest}"));
         digits.parse().map_err(too_large)
+    }
+
+    /// The number of an option that is given once.
+    fn number<N: FromStr + Display>(&self, name: &str, largest: N) -> Result<N, Failure> {
+        self.number_of(name, self.one(name)?, largest)
+    }
+
+    /// The length of a planned picture; a dash is a dropped shot, as 0 is.
+    fn length(&self, word: &OsStr) -> Result<u64, Failure> {
+        match word == "-" {
+            true => Ok(0),
+            false => self.number_of("LENGTH", word, u64::MAX),
+        }
     }
 
     /// A stamp or site mark.

@@ -14,6 +14,9 @@ Commands:
   burst fetch --key FILE --all DIRECTORY [--force] FILE
                               checks the file, then writes one picture or all of them
   burst explain FILE          draws the layout of the file; needs no key
+  burst size [--measure] LENGTH...
+                              sizes up a planned burst: bytes of its file, and how
+                              often the permutation runs
   burst COMMAND --help        says more of a command
   burst --version             shows the version
 
@@ -168,4 +171,30 @@ seal, with their offsets and lengths. It needs no key, and so it tests no tag:
 
 For a file that is no whole burst file (exit status 12) it shows what the bytes of the
 header say, as far as they are there, and which front rules they break.
+";
+
+pub const SIZE: &str = "\
+burst size [--measure] LENGTH...
+
+Sizes up a planned burst before the trigger, without key and pictures: how many bytes
+its file will have, and how often the permutation of ICEPOLE runs while it is recorded,
+with twelve rounds (P12) and with six (P6), the closing seal included.
+
+  LENGTH      the bytes of a shot's picture, 1 to 1048576; 0 or - for a shot whose picture
+              is not kept. One for each shot in the order of firing, at most 60. None at
+              all is a burst without shots
+  --measure   also times P6 on this machine, which takes a moment, and shows an estimate
+              of the time for all these calls here, a P12 counted as two P6. It is for
+              this machine alone: a camera takes its own time for a P6. Without
+              --measure no time is shown
+
+More than 60 shots are refused with 9, and else a length above 1,048,576 with 10; the
+exit status is that number.
+
+Example:
+  $ burst size 250000 - 180000
+  taken 3 kept 2 dropped 1
+  bytes 430160
+  P12 calls 3
+  P6 calls 3368
 ";

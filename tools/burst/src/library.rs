@@ -38,6 +38,14 @@ pub struct Fetched {
     pub stamp: [u8; STAMP_BYTES],
 }
 
+/// What a planned burst takes: the bytes of its file, and how often the
+/// permutation runs.
+pub struct Size {
+    pub bytes: u64,
+    pub p12: u64,
+    pub p6: u64,
+}
+
 /// The `N` bytes from an offset on.
 fn part<const N: usize>(bytes: &[u8], at: usize) -> [u8; N] {
     let mut part = [0; N];
@@ -121,4 +129,14 @@ pub fn list(file: &[u8]) -> Result<Vec<u8>, Refused> {
     }
     text.truncate(length as usize);
     Ok(text)
+}
+
+/// Sizes up a planned burst, a length for each shot and 0 for a dropped one.
+pub fn size_up(lengths: &[u64]) -> Result<Size, Refused> {
+    let (mut bytes, mut p12, mut p6) = (0, 0, 0);
+    let number = burst::size_up(lengths, &mut bytes, &mut p12, &mut p6);
+    if number != 0 {
+        return Err(Refused { number, mark: 0 });
+    }
+    Ok(Size { bytes, p12, p6 })
 }

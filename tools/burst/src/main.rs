@@ -1,5 +1,5 @@
-//! `burst`: records, lists, checks, fetches and explains burst files, over the
-//! proved static library.
+//! `burst`: sizes up, records, lists, checks, fetches and explains burst files,
+//! over the proved static libraries.
 
 #![deny(unsafe_code)]
 
@@ -17,6 +17,7 @@ mod record;
 mod rights;
 mod secrets;
 mod show;
+mod size;
 #[allow(unsafe_code)]
 mod system;
 
@@ -33,6 +34,7 @@ fn run() -> Result<(), Failure> {
         Command::Check { key, file } => read::check(&key, &file),
         Command::Fetch(wanted) => read::fetch(&wanted),
         Command::Explain { file } => explain::explain(&file),
+        Command::Size { lengths, measure } => size::size(&lengths, measure),
     }
 }
 

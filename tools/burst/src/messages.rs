@@ -196,6 +196,10 @@ pub const FRONT_EXPLAINED: &str =
     "This is no whole burst file: it may be cut, or another file. Copy it from the card again; \
      docs/FORMAT.md has the rules that it breaks.";
 
+/// Under 10, where the burst is planned and has no pictures yet.
+pub const LENGTH_PLANNED: &str =
+    "Give a length of at most 1,048,576, or - for a shot that is dropped.";
+
 /// What to do about a refusal, where no more is known than its number.
 fn advice(number: u32) -> &'static str {
     match number {

@@ -79,6 +79,14 @@ extern "C" {
         text_len: usize,
         length: *mut u32,
     ) -> u32;
+
+    fn burst_size_up(
+        lengths: *const u64,
+        count: usize,
+        file_length: *mut u64,
+        p12: *mut u64,
+        p6: *mut u64,
+    ) -> u32;
 }
 
 /// Begin and the calls of a script on a buffer: the count of answers written.
@@ -192,4 +200,11 @@ pub fn list(file: &[u8], text: &mut [u8], length: &mut u32) -> u32 {
             length,
         )
     }
+}
+
+/// Sizes up a planned burst, a length for each shot and 0 for a dropped one: the
+/// refusal number.
+pub fn size_up(lengths: &[u64], file_length: &mut u64, p12: &mut u64, p6: &mut u64) -> u32 {
+    // SAFETY: see the head of the package; it writes to file_length, p12 and p6.
+    unsafe { burst_size_up(lengths.as_ptr(), lengths.len(), file_length, p12, p6) }
 }

@@ -1,5 +1,6 @@
 //! The permutation bit by bit, straight from the definitions of 003, 2.5.
 
+use super::calls::{count_p12, count_p6};
 use super::{pi_target, State, OFFSETS, ROUND_CONSTANTS, ZERO_STATE};
 
 /// A matrix over GF(2^5); an entry's bit i is the coefficient of a^i.
@@ -158,10 +159,12 @@ pub fn rounds(state: State, count: usize) -> State {
 
 /// P6.
 pub fn p6(state: State) -> State {
+    count_p6();
     rounds(state, 6)
 }
 
 /// P12.
 pub fn p12(state: State) -> State {
+    count_p12();
     rounds(state, 12)
 }

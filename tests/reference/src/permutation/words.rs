@@ -1,6 +1,7 @@
 //! The permutation on whole words: the steps of 003, 2.5 for the 64 bit
 //! positions at once.
 
+use super::calls::{count_p12, count_p6};
 use super::{State, OFFSETS, ROUND_CONSTANTS, ZERO_STATE};
 
 /// 64 elements of GF(2^5): bit z of word y is the coefficient of a^y of element z.
@@ -98,10 +99,12 @@ pub fn rounds(mut state: State, count: usize) -> State {
 
 /// P6.
 pub fn p6(state: State) -> State {
+    count_p6();
     rounds(state, 6)
 }
 
 /// P12.
 pub fn p12(state: State) -> State {
+    count_p12();
     rounds(state, 12)
 }

@@ -48,9 +48,9 @@ fn bytes_of(bits: &[bool]) -> Vec<u8> {
     bytes
 }
 
-/// P with 6 or 12 rounds.
-fn permute(v: &Vector, count: usize) -> Vector {
-    vector_of(&bits::rounds(state_of(v), count))
+/// P6 or P12 on the vector.
+fn permute(v: &Vector, permutation: fn(State) -> State) -> Vector {
+    vector_of(&permutation(state_of(v)))
 }
 
 /// S_[n] := S_[n] xor the n bits.
@@ -108,7 +108,7 @@ fn initial(variant: Variant, key: &[u8], nonce: &[u8]) -> Vector {
     for (number, (x, y)) in places.iter().enumerate() {
         xor_word(&mut v, *x, *y, &introduced[64 * number..64 * number + 64]);
     }
-    permute(&v, 12)
+    permute(&v, bits::p12)
 }
 
 /// Blocks of bits: while more than a full block is left, a full block is cut
@@ -140,7 +140,7 @@ pub fn seal(
 
     let process = |s: &mut Vector, block: &[bool], frame_bit: bool| {
         xor_front(s, &pad(variant, block, frame_bit));
-        *s = permute(s, 6);
+        *s = permute(s, bits::p6);
     };
 
     let secret_block = bits_of(secret);

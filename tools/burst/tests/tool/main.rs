@@ -11,4 +11,5 @@ mod refusals;
 mod rights;
 mod round_trip;
 mod secrets;
+mod size;
 mod usage;

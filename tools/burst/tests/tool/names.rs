@@ -42,6 +42,8 @@ fn wrong_lines_show_words_filtered() {
         "list 7.burst EVIL",
         "check --key --EVIL",
         "fetch --key key --place EVIL --out out 7.burst",
+        "size 5 EVIL",
+        "size --EVIL",
         &RECORD.replace(" 7", " EVIL"),
         &RECORD.replace(" 3", " EVIL"),
         &RECORD.replace(" x", " hex:EVIL"),

@@ -2,10 +2,10 @@
 
 use crate::folder::{Folder, NOTE, SITE_MARK};
 
-const COMMANDS: [&str; 5] = ["record", "list", "check", "fetch", "explain"];
+const COMMANDS: [&str; 6] = ["record", "list", "check", "fetch", "explain", "size"];
 
 /// Wrong lines, and what is said of each.
-const WRONG: [(&str, &str); 17] = [
+const WRONG: [(&str, &str); 28] = [
     ("frobnicate", "there is no command `frobnicate`"),
     ("list", "the burst file is missing"),
     ("list 7.burst fox", "one file is wanted; fox is one more"),
@@ -44,6 +44,22 @@ const WRONG: [(&str, &str); 17] = [
         "fetch --key key --place x --out p 7.burst",
         "--place wants decimal",
     ),
+    ("size fox", "LENGTH wants decimal digits, not `fox`"),
+    ("size 3 - 0x3", "LENGTH wants decimal digits, not `0x3`"),
+    ("size 1,048,576", "not `1,048,576`"),
+    ("size 1.5", "not `1.5`"),
+    ("size +3", "not `+3`"),
+    // As a shell gives a variable that is not set.
+    ("size 3 ", "LENGTH wants decimal digits, not ``"),
+    ("size -3", "there is no option -3"),
+    ("size -- -3", "not `-3`"),
+    // Cut to 64 bits, it would be 0.
+    (
+        "size 18446744073709551616",
+        "LENGTH 18446744073709551616 is above 18446744073709551615",
+    ),
+    ("size 3 --measure=1", "there is no option --measure=1"),
+    ("size --key key 3", "there is no option --key"),
 ];
 
 /// A line of `record` that is right, without shots.
@@ -185,6 +201,15 @@ fn help_tells_what_a_user_may_trip_over() {
         ("fetch --help", "is new or empty"),
         ("fetch --help", "73 if DIRECTORY is not\nempty"),
         ("check --help", "this record was changed; the key is right"),
+        ("size --help", "0 or - for a shot whose picture\n"),
+        (
+            "size --help",
+            "None at\n              all is a burst without shots",
+        ),
+        (
+            "size --help",
+            "this machine alone: a camera takes its own time",
+        ),
     ] {
         let help = folder.say(line).done();
         assert!(help.contains(words), "{words}: {help}");

@@ -1,0 +1,4 @@
+pub mod Numbers
+pub mod Plans
+pub mod Alike
+pub mod Fits
