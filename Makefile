@@ -1,7 +1,7 @@
 # The whole interface. `make test` is the gate; its last line counts what passed and what failed.
 .PHONY: demo test lib bench
 
-# Shows the tool `burst`: records a burst, lists, explains and checks it, reads it back, changes one byte and sees it refused.
+# Shows the tool `burst`: sizes up and records a burst, lists, explains and checks it, reads it back, changes one byte and sees it refused.
 demo: lib
 	@sh scripts/demo.sh
 

@@ -1,7 +1,8 @@
 /*
- * A burst the way a camera records it: pictures come from the sensor one at a
- * time, two shots are lost, one picture is too long and its shot is dropped; the
- * burst is closed, written to the card, and read back from there.
+ * A burst the way a camera records it: it is sized up before the trigger;
+ * pictures come from the sensor one at a time, two shots are lost, one picture is
+ * too long and its shot is dropped; the burst is closed, written to the card, and
+ * read back from there.
  *
  *     firmware CARD_FILE
  *
@@ -37,6 +38,7 @@
 enum {
     FIRINGS = 6,                              /* of one trigger */
     FRAME_ROOM = BURST_MAX_PICTURE_BYTES + 1, /* this sensor can give one byte more than a picture may have */
+    EXPECTED_BYTES = 10000,                   /* as long as a picture of this camera is, unless the sensor fails */
     BUFFER_ROOM = 64 * 1024,
     SCRIPT_ROOM = BUFFER_ROOM,
     MOST_CALLS = BURST_MAX_SHOTS + 1, /* the shots and the close */
@@ -119,6 +121,27 @@ static int reader_refused(const char *call, uint32_t number, uint32_t mark)
     }
     printf("\n");
     return 0;
+}
+
+/* ---- Before the trigger ---- */
+
+/* Whether the buffer takes a burst in which every shot is kept and as long as expected, and how often the permutation then runs: times
+ * the time of one P12 and one P6 on this core, that is how long the core is busy. */
+static int plan(void)
+{
+    uint64_t lengths[FIRINGS], bytes, p12, p6;
+    uint32_t number;
+
+    for (size_t firing = 0; firing < FIRINGS; firing++) {
+        lengths[firing] = EXPECTED_BYTES;
+    }
+    number = burst_size_up(lengths, FIRINGS, &bytes, &p12, &p6);
+    if (number != BURST_DONE) {
+        printf("plan refused with %" PRIu32 ": %s\n", number, refusal_text(number));
+        return 0;
+    }
+    printf("planned: %" PRIu64 " bytes of %d, %" PRIu64 " P12 and %" PRIu64 " P6\n", bytes, BUFFER_ROOM, p12, p6);
+    return bytes <= BUFFER_ROOM;
 }
 
 /* ---- The script of a burst ---- */
@@ -445,6 +468,8 @@ static int trigger(const char *name)
 
     if (script.bytes == NULL || frame == NULL || buffer == NULL || answers == NULL) {
         printf("no memory\n");
+    } else if (!plan()) {
+        printf("this camera is not set up for such bursts\n");
     } else {
         size_t length = record_burst(&script, frame, buffer, answers);
         done = length > 0 && write_card(name, buffer, length) && read_back(name, frame);

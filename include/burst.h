@@ -6,9 +6,10 @@
  *
  * Machines. The library is for x86-64 Linux, as the Rattle kit builds it, and for no other machine or system.
  *
- * Slices. Every slice is a pointer and a length in bytes; that of burst_size_up is a count of 64-bit numbers. The pointers are valid for their lengths, and slices and numbers that are
- * written overlap nothing else that is lent; the proofs assume it. NULL is not allowed, not even with length 0: an empty slice is any
- * other pointer with length 0. Numbers lent by pointer are aligned and not NULL. What a call writes stands at the front of the slice;
+ * Slices. Every slice is a pointer and a length in bytes; that of burst_size_up has 64-bit numbers, and a count of them. The
+ * pointers are valid for their lengths, and slices and numbers that are written overlap nothing else that is lent; the proofs
+ * assume it. NULL is not allowed, not even with length 0: an empty slice is any other pointer with length 0. Numbers lent by
+ * pointer and the 64-bit numbers of a slice are aligned; no pointer is NULL. What a call writes stands at the front of the slice;
  * later bytes stay. All numbers in files, scripts, answers and infos are little-endian.
  *
  * During a call nobody else changes what is lent: no other thread or process, no interrupt, no DMA, and no mapping of a file that
@@ -16,10 +17,10 @@
  * call writes is settled when it returns; look at it then. A call keeps nothing for the next one, so several threads may call at the
  * same time, each with slices of its own to write to; what is only read they may share.
  *
- * Every call ends on every input. All calls but burst_replay return a refusal number, 0 when done: the
- * number whose condition is the first in the call's order to hold. A refused call leaves each lent slice with the bytes it had; numbers
- * lent by pointer are written on every call. The mark is 0 except under 7, where it says which tag differs: 0 for the closing seal,
- * else the shot number of the record.
+ * Every call ends on every input. All calls but burst_replay return a refusal number, 0 when done: the number whose condition is
+ * the first in the call's order to hold. A refused call leaves each lent slice with the bytes it had; numbers lent by pointer are
+ * written on every call. The mark is 0 except under 7, where it says which tag differs: 0 for the closing seal, else the shot
+ * number of the record.
  *
  * Keys. Make one, once, for a camera or for a whole survey: 16 bytes of the system's random source, by getrandom() or in a shell by
  *     (umask 077 && head -c 16 /dev/urandom >survey.key)
@@ -32,9 +33,9 @@
  * Nonces. They are made of burst number, camera number and shot number. Under one key, record each pair of camera number and burst number
  * once only, whatever became of the first burst: two bursts of one pair are sealed with the same nonces.
  *
- * Editions. burst_replay writes files of edition 2; the other calls take files of edition 1 too. Those have no camera number, and 0 stands
- * for it in their nonces. So a burst of edition 2, whose camera number is not 0, never shares a nonce with one of edition 1; but cameras
- * that still write edition 1 must not share a key with each other.
+ * Editions. burst_replay writes files of edition 2, and those are what burst_size_up sizes up; the calls that read take files of
+ * edition 1 too. Those have no camera number, and 0 stands for it in their nonces. So a burst of edition 2, whose camera number is
+ * not 0, never shares a nonce with one of edition 1; but cameras that still write edition 1 must not share a key with each other.
  */
 #ifndef BURST_H
 #define BURST_H
@@ -54,7 +55,7 @@ enum burst_refusal {
     BURST_OUTPUT_TOO_SHORT = 5, /* out, info or text is too short */
     BURST_TAG_DIFFERS = 7,      /* mark 0: the file or the key is another; else the record of that shot was changed */
     BURST_NOT_SOUND = 8,        /* the burst is closed, or its begin was refused */
-    BURST_FULL = 9,             /* 60 shots were taken */
+    BURST_FULL = 9,             /* 60 shots were taken, or more are planned */
     BURST_PICTURE_LENGTH = 10,  /* a picture has 1 to 1,048,576 bytes */
     BURST_BUFFER_TOO_SHORT = 11,
     BURST_FRONT_BROKEN = 12,    /* header, index or the file's length break a front rule */
@@ -127,7 +128,7 @@ uint32_t burst_record(const uint8_t *key, size_t key_len,
  *   *file_length  the bytes of the burst's file, of the edition that burst_replay writes: a buffer of so many bytes takes the whole burst,
  *                 every keep and drop and the close, and one byte less does not
  *   *p12, *p6     how often the permutation runs while the burst is recorded, with twelve rounds and with six, the closing seal included
- * Refusals 9 for more than 60 shots, then 10 for a length above 1,048,576; then all three numbers are 0. The whole list is judged for 9
+ * Refusals 9 for more than 60 shots, then 10 for a length above 1,048,576. Where it refuses, all three numbers are 0. The count is judged
  * before a length is looked at. Its time grows with count alone. */
 uint32_t burst_size_up(const uint64_t *lengths, size_t count,
                        uint64_t *file_length, uint64_t *p12, uint64_t *p6);

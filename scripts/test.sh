@@ -195,6 +195,12 @@ rounds_counted() {
     counted 1000 "twelve rounds back" 6200 1001 1 build/rounds_back_bench back && counted 1000 "twelve rounds forward" 3900 1001 1 build/rounds_back_bench forward
 }
 
+# Of a call that sizes up 60 shots of the longest length: a few for each shot, whatever the lengths.
+size_up_counted() {
+    gcc -std=c11 -Wall -Wextra -Werror -O2 -Iinclude bench/size_up.c target/staticlib/libburst_c.a -o build/size_up && build/size_up 1 || return 1
+    counted 1000 "sizing up 60 shots" 1500 1001 1 build/size_up
+}
+
 # No division in compiled code, neither as an instruction nor as a call of one: its time may depend on what is divided, and the source takes bytes of secrets
 # by division (docs/PROOFS.md, "What is trusted").
 no_division() {
@@ -316,6 +322,7 @@ step "instructions of a block opened in place" block icepole128_open_in_place 38
 step "instructions of a P6" p6
 step "instructions of a round log" round_log_counted
 step "instructions of rounds back and forward" rounds_counted
+step "instructions of sizing up" size_up_counted
 step "no division in the libraries" no_division target/staticlib/libicepole_c.a target/staticlib/libburst_c.a target/staticlib/libcore_c.a
 step "and one that is there is seen" division_seen
 step "memcpy and memset of the C library alone" wanted_names target/staticlib/libicepole_c.a target/staticlib/libburst_c.a target/staticlib/libcore_c.a

@@ -3,15 +3,17 @@
 -- It refuses a list above 60 with 9, then a length above 1,048,576 with 10."
 -- The call is `sizing::size_up`, whose contract is that it answers `sizeAnswer lengths`, for every list; `burst_size_up` gives the same numbers in C. `Demand1` has
 -- what it refuses. Here:
---   bursts     for every plain burst of edition 2 whose shots have these lengths, the three numbers are the length of its file and its P12 and P6 calls
---   lists      so too for every list of calls that has an accepted close, from the lengths of the shots that were taken
---   sealed-by  the calls that count for a seal are those that sealing makes: its tag is of the state after them, from the starting words on
---   file-of    the seals that count for a burst are those of its file
---   p12        there is one P12 for each picture and one for the closing seal
---   p6         there is one P6 for each padded block of each seal, the secret-number blocks included
---   fits       begin, keeps and drops of these lengths and a close are all accepted exactly if the list is not refused and the buffer has as many bytes as the
---              file: a buffer of just that length takes them all, and one byte less does not
---   carried    and then the three numbers are those of the burst that was recorded
+--   bursts   for every plain burst of edition 2, of at most 60 shots that can be recorded and that have these lengths, the three numbers are the length of its
+--            file and its P12 and P6 calls
+--   lists    so too for every list of calls that has an accepted close, from the lengths of the shots that were taken
+--   state    the calls that count for a seal are those that sealing makes: the state of which the tag is taken is the one after them, from the starting words on
+--   parts    so it is with each part that is sealed for a burst file, in blocks of 128 bytes: the tag at its end is of the state after the calls that count for it
+--   file-of  the seals that count for a burst are those of its file: their bytes are its records and its closing seal
+--   p12      there is one P12 for each picture and one for the closing seal
+--   p6       there is one P6 for each padded block of each seal, the secret-number blocks included
+--   fits     begin, keeps and drops of these lengths and a close are all accepted exactly if the list is not refused and the buffer has at least as many bytes as
+--            the file: a buffer of exactly that length takes them all, and one byte less does not
+--   carried  and then the three numbers are those of the burst that was recorded
 -- Assumes nothing.
 use mathlib.Core.List.{List, [], _∷_, _++_, map}
 use mathlib.Core.Logic.{_↔_}
@@ -19,9 +21,13 @@ use mathlib.Core.Path.{_≡_}
 use Prim.Native.Nat.{ℕ, _+_, _≤_}
 use lib.ListN.{length, replicate}
 use Rattle.bytes_le.specs.Bytes.{Bytes}
-use Rattle.padded_blocks.specs.PaddedBlocks.{callsOf, SealedBy}
+use Rattle.state_bytes.specs.StateBytes.{startBytes}
+use Rattle.blocks.specs.Sealing.{_⊕₈_, encrypt, keyed, ready, tag}
+use Rattle.padded_blocks.specs.PaddedBlocks.{stateAfter, callsOf, SealingState}
 use Rattle.burst.specs.declared.Edition.{Edition}
+use Rattle.burst.specs.declared.Name.{Name}
 use Rattle.burst.specs.Editions.{edition2}
+use Rattle.burst.specs.Parts.{nonceOf, sealPart, partCalls}
 use Rattle.burst.specs.Layout.{Identity}
 use Rattle.trace.specs.Plain.{Firing, kept, gap, pictures, Plain, fileOf, Call, CallList, plainOf}
 use Rattle.trace.specs.Seals.{burstCalls, burstBlocks, FileOfSeals}
@@ -52,6 +58,12 @@ abbrev pub Lists : Type 0
 Lists = (l : CallList) → Reached (editionFor l) l → Sized (editionFor l) (plainOf (editionFor l) l) (sizeAnswer (lengthsOf (plainOf (editionFor l) l .shots)))
 
 -- ---- how often the permutation is called
+abbrev pub Parts : Type 0
+Parts = (e : Edition) (key : Bytes) (name : Name) (shot : ℕ) (mark ad body : Bytes)
+    → let v = keyed key (nonceOf e name shot) in
+    sealPart e key name shot mark ad body
+    ≡ (v ⊕₈ mark) ++ (encrypt 128 (ready 128 v mark ad) body ++ tag (stateAfter startBytes (partCalls e key name shot mark ad body)))
+
 abbrev pub P12Calls : Type 0
 P12Calls = (e : Edition) (p : Plain) → callsOf 12 (burstCalls e p) ≡ pictures (p .shots) + 1
 
@@ -73,7 +85,8 @@ module _ (key : Bytes) (i : Identity) (cs : List Call) (b : Bytes) where
 pub record SizeUp : Type 0 where
   pub bursts : Bursts
   pub lists : Lists
-  pub sealed-by : SealedBy
+  pub state : SealingState
+  pub parts : Parts
   pub file-of : FileOfSeals
   pub p12 : P12Calls
   pub p6 : P6Calls

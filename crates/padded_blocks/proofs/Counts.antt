@@ -7,7 +7,7 @@ use native.Mathlib.Omega.{arith}
 use lib.ListN.{length, take, drop, length-append}
 use Rattle.bytes_le.specs.Bytes.{Bytes}
 use Rattle.blocks.specs.Sealing.{_⊕₈_, absorb, absorbBlocks, absorbAssociated, absorbMessage, blocksBefore, encrypt, keyed, ready, tag, sealed}
-use Rattle.padded_blocks.specs.PaddedBlocks.{inBlocks, paddedBlocks, sealBlocks, Permuting, permuting, stateAfter, callsOf, sealCalls, SealedBy}
+use Rattle.padded_blocks.specs.PaddedBlocks.{inBlocks, paddedBlocks, sealBlocks, Permuting, permuting, stateAfter, callsOf, sealCalls, SealingState, SealedBy}
 
 pub after-append : (v : Bytes) (cs ds : List Permuting) → stateAfter v (cs ++ ds) ≡ stateAfter (stateAfter v cs) ds
 after-append v [] ds = refl
@@ -47,11 +47,15 @@ module _ (r : ℕ) where
       ap suc (length-append (inBlocks r 0 1 (blocksBefore r (length ad)) ad) _ ∙ ap₂ _+_ (length-in 0 1 _ ad) (length-in 1 0 _ m))
 
 -- ---- the calls of a seal
+pub sealing-state : SealingState
+unfolding sealCalls keyed
+sealing-state r key nonce secret ad m = absorbed-all r (keyed key nonce) secret ad m
+
 pub sealed-by : SealedBy
-unfolding sealed sealCalls keyed
+unfolding sealed
 sealed-by q key nonce secret ad m =
     ap (λ (v : Bytes). (keyed key nonce ⊕₈ secret) ++ (encrypt (q .block) (ready (q .block) (keyed key nonce) secret ad) m ++ tag v))
-    (absorbed-all (q .block) (keyed key nonce) secret ad m)
+    (sealing-state (q .block) key nonce secret ad m)
 
 of-six : (bs : List Bytes) → (callsOf 12 (map (permuting 6) bs) ≡ 0) × (callsOf 6 (map (permuting 6) bs) ≡ length bs)
 of-six [] = (refl, refl)

@@ -10,7 +10,7 @@ use Rattle.bytes_le.specs.Bytes.{Bytes}
 use Rattle.state_bytes.specs.StateBytes.{permuted, startBytes}
 use Rattle.blocks.specs.declared.Sizes.{Sizes}
 use Rattle.blocks.specs.Lengths.{maxNonce}
-use Rattle.blocks.specs.Sealing.{_⊕₈_, xorWith, pad, blocksBefore, encrypt, keyed, ready, tag, sealed}
+use Rattle.blocks.specs.Sealing.{_⊕₈_, xorWith, pad, blocksBefore, absorbMessage, encrypt, keyed, ready, tag, sealed}
 
 -- ---- blocks of r bytes
 module _ (r : ℕ) where
@@ -52,7 +52,12 @@ unfoldable pub sealCalls : (r : ℕ) (key nonce secret ad m : Bytes) → List Pe
 sealCalls r key nonce secret ad m =
     permuting 12 (key ++ (nonce ++ replicate (maxNonce - length nonce) 0)) ∷ map (permuting 6) (paddedBlocks r secret ad m)
 
--- ---- that these are the calls of sealing: the state of which the tag is taken is the one after them
+-- ---- that these are the calls of sealing: the state of which the tag is taken is the one after them, from the starting words on
+abbrev pub SealingState : Type 0
+SealingState = (r : ℕ) (key nonce secret ad m : Bytes)
+    → absorbMessage r (ready r (keyed key nonce) secret ad) m ≡ stateAfter startBytes (sealCalls r key nonce secret ad m)
+
+-- so that a sealed message is said by them
 abbrev pub SealedBy : Type 0
 SealedBy = (q : Sizes) (key nonce secret ad m : Bytes)
     → sealed q key nonce secret ad m

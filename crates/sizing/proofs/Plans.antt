@@ -3,10 +3,10 @@
 use mathlib.Core.Bool.{Bool, true, false, cond}
 use mathlib.Core.List.{List, [], _∷_, _++_, map}
 use mathlib.Core.Path.{_≡_, refl, sym, ap, ap₂, subst, _∙_}
-use Prim.Native.Nat.{ℕ, _+_, _*_, _≤_, _<_}
+use Prim.Native.Nat.{ℕ, suc, _+_, _*_, _≤_, _<_}
 use native.Mathlib.Numerals.{add-one}
 use native.Mathlib.Omega.{arith}
-use borrow.Author.Tests.{eq-eqb, ne-eqb, eqb-true, eqb-false}
+use borrow.Author.Tests.{eq-eqb, ne-eqb, eqb-true, eqb-false, le-ltb}
 use lib.Dec.{eqb}
 use lib.ListN.{length, drop, getD, replicate, length-append, length-replicate, drop-of-length-le}
 use lib.Seq.{drop-cons}
@@ -16,7 +16,7 @@ use Rattle.burst.specs.declared.Edition.{Edition}
 use Rattle.burst.specs.Editions.{Known}
 use Rattle.burst.specs.Fields.{entryLength}
 use Rattle.burst.specs.Parts.{noMark, sealLength, partBlocks}
-use Rattle.burst.specs.Layout.{entryBytes}
+use Rattle.burst.specs.Layout.{maxPicture, entryBytes}
 use Rattle.burst.specs.Numbers.{usedAfter}
 use Rattle.burst.proofs.Puts.{length-entry, length-header}
 use Rattle.burst.proofs.Parts.{part-blocks}
@@ -26,7 +26,7 @@ use Rattle.trace.proofs.Shots.{Valid, length-index}
 use Rattle.trace.proofs.Seals.{burst-p12, burst-p6, burst-blocks}
 use Rattle.sizing.specs.declared.Size.{Size}
 use Rattle.sizing.specs.declared.Sums.{Sums}
-use Rattle.sizing.specs.Sizing.{lengthsOf, plannedShot, plannedBurst, sizedEdition, sizeNumber, sizedAs, sizeAnswer}
+use Rattle.sizing.specs.Sizing.{lengthsOf, plannedShot, plannedBurst, sizedEdition, tooLong, sizeNumber, sizedAs, sizeAnswer}
 use Rattle.sizing.specs.Sums.{recordBlocks, firstSums, withShot, withShots, After}
 
 -- ---- one shot
@@ -77,6 +77,17 @@ pub valid-filled : (xs : List Firing) → Valid xs → Filled xs
 valid-filled [] v = tt
 valid-filled (kept s p ∷ xs) v = (v .0 .1, valid-filled xs (v .1))
 valid-filled (gap ∷ xs) v = valid-filled xs v
+
+-- the lengths of valid shots are not too long, and there is one for each
+pub valid-short : (xs : List Firing) → Valid xs → tooLong (lengthsOf xs) ≡ false
+valid-short [] v = refl
+valid-short (kept s p ∷ xs) v = (simp (le-ltb maxPicture (length p) (v .0 .2))) ∙ valid-short xs (v .1)
+valid-short (gap ∷ xs) v = valid-short xs v
+
+pub length-lengths : (xs : List Firing) → length (lengthsOf xs) ≡ length xs
+length-lengths [] = refl
+length-lengths (kept s p ∷ xs) = ap suc (length-lengths xs)
+length-lengths (gap ∷ xs) = ap suc (length-lengths xs)
 
 -- t is s with the shots xs, the first of which is shot number n and stands at `at`
 record Adds (e : Edition) (n at : ℕ) (xs : List Firing) (s t : Sums) : Type 0 where

@@ -1,6 +1,6 @@
 -- Sizing up a burst before the trigger (02, N4): "From a list of up to 60 lengths, 0 for a dropped shot, work out the file length and the numbers of P12 and P6
 -- calls, without sealing." The three numbers are those of a plain burst with shots of these lengths, in the edition that is written. The burst here has zeros for
--- pictures, stamps and site mark; `SizeUp` of the claims says that every burst with shots of these lengths has the same.
+-- key, pictures, stamps and site mark; `SizeUp` of the claims says that every burst with shots of these lengths has the same.
 -- Assumes nothing.
 use mathlib.Core.Bool.{Bool, true, false, cond, _||_}
 use mathlib.Core.List.{List, [], _∷_, map}

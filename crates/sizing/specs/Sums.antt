@@ -7,7 +7,9 @@ use lib.Dec.{eqb}
 use lib.ListN.{replicate}
 use Rattle.burst.specs.declared.Edition.{Edition}
 use Rattle.burst.specs.Fields.{entryLength}
-use Rattle.burst.specs.Parts.{noMark, partBlocks}
+use Rattle.burst.specs.Parts.{noMark, sealLength, partBlocks}
+use Rattle.burst.specs.Editions.{maxHeader}
+use Rattle.burst.specs.Layout.{maxPicture}
 use Rattle.burst.specs.Numbers.{usedAfter}
 use Rattle.sizing.specs.declared.Sums.{Sums}
 
@@ -27,8 +29,15 @@ unfoldable pub withShots : Edition → Sums → List ℕ → Sums
 withShots e s [] = s
 withShots e s (n ∷ ns) = withShots e (withShot e s n) ns
 
+-- the longest record; and more blocks than any record has: one a byte, and three
+abbrev pub maxRecord : ℕ
+maxRecord = maxPicture + sealLength
+
+abbrev pub maxBlocks : ℕ
+maxBlocks = entryLength + maxPicture + 3
+
 -- that i shots make them no larger than so much
 pub record After (i : ℕ) (s : Sums) : Type 0 where
-  pub used : s .used ≤ 1048608 * i + 40
+  pub used : s .used ≤ maxRecord * i + maxHeader
   pub kept : s .kept .0 ≤ i
-  pub blocks : s .blocks ≤ 1048591 * i
+  pub blocks : s .blocks ≤ maxBlocks * i

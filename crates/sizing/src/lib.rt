@@ -9,12 +9,12 @@ use burst::SEAL_LENGTH;
 use icepole::KEY_BYTES;
 ghost use mathlib.Core.Path.{_≡_};
 ghost use mathlib.Core.Bool.{false};
-ghost use Prim.Native.Nat.{_+_, _≤_, _<_};
+ghost use Prim.Native.Nat.{_+_, _≤_};
 ghost use lib.ListN.{length};
 ghost use Rattle.burst.specs.Editions.{Known, maxEntries};
 ghost use Rattle.burst.specs.Layout.{maxPicture};
 ghost use Rattle.sizing.specs.Sizing.{tooLong, sizeNumber, sizeAnswer};
-ghost use Rattle.sizing.specs.Sums.{firstSums, withShot, withShots, After};
+ghost use Rattle.sizing.specs.Sums.{firstSums, withShot, withShots, maxRecord, maxBlocks, After};
 
 // What sizing up answers: a refusal number with its mark, or the file's length and how often the permutation runs with twelve and with six rounds.
 pub struct Size {
@@ -52,7 +52,7 @@ fn size_number(e: Edition, lengths: &[u64]) -> u32
 // The sums after one more shot, whose picture has n bytes, or none where it is dropped.
 fn with_shot(e: Edition, s: Sums, n: u64) -> Sums
     requires { ⌜ (n ≤ maxPicture) × After maxEntries s ⌝ }
-    ensures { λ t. ⌜ (t ≡ withShot e s n) × (t .used ≤ s .used + 1048608) × (t .kept .0 ≤ s .kept .0 + 1) × (t .blocks ≤ s .blocks + 1048591) ⌝ }
+    ensures { λ t. ⌜ (t ≡ withShot e s n) × (t .used ≤ s .used + maxRecord) × (t .kept .0 ≤ s .kept .0 + 1) × (t .blocks ≤ s .blocks + maxBlocks) ⌝ }
 {
     if n == 0 {
         return s;

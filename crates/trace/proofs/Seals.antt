@@ -1,7 +1,7 @@
 -- The seals of a plain burst make its file; how long that is, and how often they call the permutation.
 -- Assumes nothing.
-use mathlib.Core.List.{List, [], _∷_, _++_, append-nil}
-use mathlib.Core.Path.{_≡_, refl, sym, ap, _∙_}
+use mathlib.Core.List.{List, [], _∷_, _++_, append-nil, append-assoc}
+use mathlib.Core.Path.{_≡_, refl, sym, ap, ap₂, _∙_}
 use Prim.Native.Nat.{ℕ, _+_, _*_}
 use native.Mathlib.Omega.{arith}
 use lib.ListN.{length, length-append}
@@ -11,7 +11,7 @@ use Rattle.padded_blocks.proofs.Counts.{calls-append}
 use Rattle.burst.specs.declared.Edition.{Edition}
 use Rattle.burst.specs.declared.Name.{Name}
 use Rattle.burst.specs.Editions.{Known}
-use Rattle.burst.specs.Parts.{markLength, partCalls}
+use Rattle.burst.specs.Parts.{markLength, partCalls, sealPart}
 use Rattle.burst.specs.Layout.{recordBytes, closingSeal}
 use Rattle.burst.proofs.Puts.{length-header}
 use Rattle.burst.proofs.Parts.{part-calls}
@@ -27,14 +27,18 @@ records-sealed e key name n at [] = refl
 records-sealed e key name n at (kept s p ∷ xs) = ap (λ (l : Bytes). recordBytes e key name n at s p ++ l) (records-sealed e key name _ _ xs)
 records-sealed e key name n at (gap ∷ xs) = records-sealed e key name _ at xs
 
+sealed-append : (e : Edition) (key : Bytes) (name : Name) (xs ys : List Seal) → sealedBytes e key name (xs ++ ys) ≡ sealedBytes e key name xs ++ sealedBytes e key name ys
+sealed-append e key name [] ys = refl
+sealed-append e key name (x ∷ xs) ys =
+    let s = sealPart e key name (x .shot) (x .mark) (x .associated) (x .body) in
+    ap (λ (l : Bytes). s ++ l) (sealed-append e key name xs ys) ∙ sym (append-assoc s (sealedBytes e key name xs) (sealedBytes e key name ys))
+
 pub file-of-seals : FileOfSeals
-unfolding fileOf closingSeal
+unfolding closingSeal
 file-of-seals e p =
-    let r = records-sealed e (p .key) (p .identity .name) 1 (e .header) (p .shots) in
-    let c = closingSeal e (p .key) (p .identity) (headerOf e p) (indexOf e p) in
-    ap (λ (l : Bytes). headerOf e p ++ (l ++ (indexOf e p ++ c))) r
-    ∙ ap (λ (l : Bytes). headerOf e p ++ (sealedBytes e (p .key) (p .identity .name) (recordSeals 1 (e .header) (p .shots)) ++ (indexOf e p ++ l)))
-    (sym (append-nil c))
+    let xs = recordSeals 1 (e .header) (p .shots) in
+    sealed-append e (p .key) (p .identity .name) xs (lastSeal e p ∷ [])
+    ∙ ap₂ (λ (a b : Bytes). a ++ b) (sym (records-sealed e (p .key) (p .identity .name) 1 (e .header) (p .shots))) (append-nil _)
 
 pub length-file : (e : Edition) → Known e → (p : Plain) → Valid (p .shots) → length (p .identity .siteMark) ≡ markLength → length (fileOf e p) ≡ totalOf e p
 unfolding fileOf totalOf headerOf indexOf

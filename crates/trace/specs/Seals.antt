@@ -9,9 +9,9 @@ use Rattle.padded_blocks.specs.PaddedBlocks.{Permuting}
 use Rattle.burst.specs.declared.Edition.{Edition}
 use Rattle.burst.specs.declared.Name.{Name}
 use Rattle.burst.specs.Parts.{partBlocks, partCalls, sealPart}
-use Rattle.burst.specs.Layout.{entryBytes}
+use Rattle.burst.specs.Layout.{entryBytes, closingSeal}
 use Rattle.burst.specs.Numbers.{usedAfter}
-use Rattle.trace.specs.Plain.{Firing, kept, gap, Plain, headerOf, indexOf, fileOf}
+use Rattle.trace.specs.Plain.{Firing, kept, gap, records, Plain, headerOf, indexOf}
 
 -- a seal to make: its shot number, 0 for the closing seal, and its mark, associated data and body
 pub record Seal : Type 0 where
@@ -58,10 +58,8 @@ module _ (e : Edition) (p : Plain) where
   unfoldable pub burstBlocks : ℕ
   burstBlocks = sealsBlocks e (sealsOf e p)
 
--- that these are the seals of the file: it is header, sealed records, index and closing seal
+-- that these are the seals of the file: their sealed bytes are its records and its closing seal
 abbrev pub FileOfSeals : Type 0
 FileOfSeals = (e : Edition) (p : Plain)
-    → fileOf e p
-    ≡ headerOf e p
-    ++ (sealedBytes e (p .key) (p .identity .name) (recordSeals 1 (e .header) (p .shots))
-    ++ (indexOf e p ++ sealedBytes e (p .key) (p .identity .name) (lastSeal e p ∷ [])))
+    → sealedBytes e (p .key) (p .identity .name) (sealsOf e p)
+    ≡ records e (p .key) (p .identity .name) 1 (e .header) (p .shots) ++ closingSeal e (p .key) (p .identity) (headerOf e p) (indexOf e p)

@@ -68,7 +68,7 @@ fn random_count(generator: &mut SplitMix64) -> usize {
     }
 }
 
-/// One list in eight has a length that is refused, and a few have more.
+/// One list in eight has one to three lengths that are refused.
 pub fn random_lengths(generator: &mut SplitMix64) -> Vec<u64> {
     let count = random_count(generator);
     let mut lengths: Vec<u64> = (0..count).map(|_| random_length(generator)).collect();

@@ -1,7 +1,8 @@
 //! The proved recorder writes the worked files of docs/FORMAT.md that are of
 //! edition 2, from the page's lists of calls. The proved reader reads all of
 //! them and refuses damaged copies and fronts without seals as the page says,
-//! and the proved lister prints the page's texts.
+//! the proved lister prints the page's texts, and the page's plans have the
+//! sizes that it says.
 
 use burst_calls::lent::Lent;
 use burst_calls::listing::{check_rooms, check_text, LIST_BYTES};
@@ -10,6 +11,7 @@ use burst_calls::reading::{
 };
 use burst_calls::recording::Recording;
 use burst_calls::script::script_of;
+use burst_calls::sizing::check_answer;
 use burst_calls::{check, fetch, list_front, record, replay};
 use reference::burst::Call;
 use reference::page::{self, counting, damaged_copies, Recorded, WORKED};
@@ -82,6 +84,14 @@ fn recorded_lists() {
 fn begun() {
     for recorded in page::begins() {
         check_recorded(&recorded, "begin");
+    }
+}
+
+/// Number, file length and calls of the permutation of the table of plans.
+#[test]
+fn plans() {
+    for plan in page::plans() {
+        check_answer(&plan.lengths, plan.size, &|| format!("plan, {}", plan.what));
     }
 }
 

@@ -6,7 +6,7 @@ use std::ops::Range;
 
 use crate::burst::layout::{nonce, ENTRY_BYTES};
 use crate::burst::reader::RecordPart;
-use crate::burst::{Answer, Call, Edition, Entry, Header, EDITION_1, EDITION_2};
+use crate::burst::{Answer, Call, Edition, Entry, Header, Size, EDITION_1, EDITION_2};
 
 const PAGE: &str = include_str!("../../../docs/FORMAT.md");
 
@@ -461,6 +461,44 @@ pub fn begins() -> Vec<Recorded> {
         }
     };
     rows("Begins").into_iter().map(row).collect()
+}
+
+/// A row of the table of plans: picture lengths, 0 for a dropped shot, and the
+/// size or the refusal number.
+#[derive(Clone, Debug, PartialEq, Eq)]
+pub struct Plan {
+    pub lengths: Vec<u64>,
+    pub size: Result<Size, u32>,
+    pub what: &'static str,
+}
+
+/// The lengths of a cell: none, or one by one; `60 of 0` is 0 sixty times.
+fn lengths_of(cell: &str) -> Vec<u64> {
+    let parts = cell.split(", ").filter(|part| *part != "none");
+    let lengths = |part: &str| match part.split_once(" of ") {
+        Some((times, length)) => vec![decimal(length); decimal(times)],
+        None => vec![decimal(part)],
+    };
+    parts.flat_map(lengths).collect()
+}
+
+pub fn plans() -> Vec<Plan> {
+    let plan = |[lengths, number, file_length, p12, p6, what]: [&'static str; 6]| {
+        let size = Size {
+            file_length: decimal(file_length),
+            p12: decimal(p12),
+            p6: decimal(p6),
+        };
+        let number = decimal(number);
+        // A refused call answers zeros.
+        assert_eq!(size == Size::default(), number != 0, "{lengths}");
+        Plan {
+            lengths: lengths_of(lengths),
+            size: if number == 0 { Ok(size) } else { Err(number) },
+            what,
+        }
+    };
+    rows("Plans").into_iter().map(plan).collect()
 }
 
 /// A row of the table of fronts: a file without seals, the first front rule

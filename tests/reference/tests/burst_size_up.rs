@@ -68,7 +68,7 @@ fn example() {
 }
 
 /// Pictures of one block. The closing seal covers 40 + 12 kept bytes: 124 with 7
-/// kept and 136 with 8, but just 256 with 18 and 640 with 50.
+/// kept and 136 with 8, but exactly 256 with 18 and 640 with 50.
 #[test]
 fn header_and_index_around_blocks() {
     for (kept, blocks) in [

@@ -1,19 +1,22 @@
 //! What docs/FORMAT.md shows is what the documents say: its tables of header,
 //! index entry and editions, its worked files and how they are recorded, what is
-//! read from them, from damaged copies and from fronts without seals, its
-//! listings, its vectors, its tables of the permutation, and the order of its
-//! front rules.
+//! read from them, from damaged copies and from fronts without seals, its plans
+//! and how they are sized up, its listings, its vectors, its tables of the
+//! permutation, and the order of its front rules.
+
+mod help;
 
 use std::collections::BTreeSet;
 use std::ops::Range;
 
+use help::list_of;
 use reference::burst::layout::{
     Edition, EDITIONS, EDITION_1, EDITION_2, ENTRY_BYTES, LONGEST_PICTURE, MOST_SHOTS, SEAL_BYTES,
 };
 use reference::burst::lister::{list, LONGEST_LISTED};
 use reference::burst::plain::{run, Call};
 use reference::burst::reader::{check, fetch, front, record, Checked, Fetched};
-use reference::burst::{Entry, Header, Refusal};
+use reference::burst::{size_up, Entry, Header, PlainBurst, Refusal, Size};
 use reference::page::{self, counting, damaged_copies, WORKED};
 use reference::page::{Damaged, Field, FrontRow, Part, Reading, Recorded, Stretch, Worked};
 use reference::permutation::{
@@ -80,6 +83,7 @@ fn no_other_tables() {
         "Recording it",
         "The third file",
         "Begins",
+        "Plans",
         "Fronts",
     ];
     assert_eq!(page::tables(), held);
@@ -601,6 +605,114 @@ fn every_call_of_the_table() {
         let part = record(key, file, place);
         assert_eq!((part.number, part.mark), reading.record, "{reading:?}");
     }
+}
+
+// ---- plans
+
+/// The size of a plan by the page's rule, in its order.
+fn size_by_rule(lengths: &[u64]) -> Result<Size, u32> {
+    if lengths.len() > 60 {
+        return Err(9);
+    }
+    if lengths.iter().any(|length| *length > 1_048_576) {
+        return Err(10);
+    }
+    let blocks = |bytes: u64| if bytes == 0 { 1 } else { bytes.div_ceil(128) };
+    let seal = |ad, message| 1 + blocks(ad) + blocks(message);
+    let pictures: Vec<u64> = lengths.iter().copied().filter(|l| *l > 0).collect();
+    let kept = pictures.len() as u64;
+    let records: u64 = pictures.iter().map(|length| length + 32).sum();
+    let of_records: u64 = pictures.iter().map(|length| seal(12, *length)).sum();
+    Ok(Size {
+        file_length: 40 + records + 12 * kept + 32,
+        p12: kept + 1,
+        p6: of_records + seal(40 + 12 * kept, 0),
+    })
+}
+
+/// A buffer of the file length takes the whole plan. In one byte less the keep
+/// of the last picture is refused with 11, or begin and then all with 8.
+fn check_buffers(lengths: &[u64], file_length: u64) {
+    let lengths: Vec<usize> = lengths.iter().map(|length| *length as usize).collect();
+    let calls = list_of(7, &lengths);
+    let numbers = |buffer_len: u64| -> Vec<u32> {
+        let mut burst = PlainBurst::at_first(EDITION_2);
+        let mut number = |call: &Call| burst.answer(call, buffer_len as usize).number;
+        calls.iter().map(&mut number).collect()
+    };
+    let mut expected = vec![0; calls.len()];
+    assert_eq!(numbers(file_length), expected, "{lengths:?}");
+    match lengths.iter().rposition(|length| *length > 0) {
+        Some(last) => expected[1 + last] = 11,
+        None => {
+            expected.fill(8);
+            expected[0] = 11;
+        }
+    }
+    assert_eq!(numbers(file_length - 1), expected, "{lengths:?}");
+}
+
+#[test]
+fn every_plan() {
+    let plans = page::plans();
+    assert_eq!(plans.len(), 15);
+    for plan in &plans {
+        let lengths = &plan.lengths[..];
+        assert_eq!(size_up(lengths), plan.size, "{plan:?}");
+        assert_eq!(size_by_rule(lengths), plan.size, "rule, {plan:?}");
+        if let Ok(size) = plan.size {
+            check_buffers(lengths, size.file_length);
+        }
+    }
+    let numbers: BTreeSet<u32> = plans.iter().filter_map(|plan| plan.size.err()).collect();
+    assert_eq!(numbers, BTreeSet::from([9, 10]));
+}
+
+/// What the words beside the table say of it, and of the empty plan.
+#[test]
+fn remarks_on_plans() {
+    let plans = page::plans();
+    let total = |lengths: &[u64]| {
+        let plan = plans.iter().find(|plan| plan.lengths == lengths).unwrap();
+        plan.size.unwrap().file_length as usize
+    };
+    assert_eq!(total(&[0, 3, 0]), WORKED[1].file().len());
+    assert_eq!(total(&[0; 60]), page::bytes("third file").len());
+    assert_eq!(total(&[1_048_576; 60]), file_lengths(EDITION_2).1);
+    for kept in [7, 8, 18, 19] {
+        let plan = plans.iter().find(|plan| plan.lengths == vec![1; kept]);
+        let bytes = EDITION_2.header_bytes + ENTRY_BYTES * kept;
+        let what = format!("header and index have {bytes} bytes");
+        assert_eq!(plan.unwrap().what, what);
+    }
+    let empty = size_up(&[]).unwrap();
+    let [length, p12, p6] = [empty.file_length, empty.p12, empty.p6];
+    let words = format!("The empty plan has an answer: file length {length}, P12 {p12}, P6 {p6}.");
+    assert!(page::says(&words), "{words}");
+}
+
+/// The page's rule, on plans of up to 63 shots, some with a picture that is too
+/// long.
+#[test]
+fn plans_at_random() {
+    let mut generator = SplitMix64::new(13);
+    let mut met = BTreeSet::new();
+    for _ in 0..1_000 {
+        let longest = [3, 300, 1_000][generator.below(3)];
+        let mut lengths: Vec<u64> = (0..generator.below(63))
+            .map(|_| generator.below(longest) as u64)
+            .collect();
+        if generator.below(8) == 0 {
+            lengths.push(1_048_577);
+        }
+        let size = size_by_rule(&lengths);
+        assert_eq!(size_up(&lengths), size, "{lengths:?}");
+        if let Ok(size) = size {
+            check_buffers(&lengths, size.file_length);
+        }
+        met.insert(size.err());
+    }
+    assert_eq!(met, BTreeSet::from([None, Some(9), Some(10)]));
 }
 
 // ---- fronts without seals

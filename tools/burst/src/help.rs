@@ -14,7 +14,7 @@ Commands:
   burst fetch --key FILE --all DIRECTORY [--force] FILE
                               checks the file, then writes one picture or all of them
   burst explain FILE          draws the layout of the file; needs no key
-  burst size [--measure] LENGTH...
+  burst size [--measure] [LENGTH...]
                               sizes up a planned burst: bytes of its file, and how
                               often the permutation runs
   burst COMMAND --help        says more of a command
@@ -174,7 +174,7 @@ header say, as far as they are there, and which front rules they break.
 ";
 
 pub const SIZE: &str = "\
-burst size [--measure] LENGTH...
+burst size [--measure] [LENGTH...]
 
 Sizes up a planned burst before the trigger, without key and pictures: how many bytes
 its file will have, and how often the permutation of ICEPOLE runs while it is recorded,
@@ -183,10 +183,11 @@ with twelve rounds (P12) and with six (P6), the closing seal included.
   LENGTH      the bytes of a shot's picture, 1 to 1048576; 0 or - for a shot whose picture
               is not kept. One for each shot in the order of firing, at most 60. None at
               all is a burst without shots
-  --measure   also times P6 on this machine, which takes a moment, and shows an estimate
-              of the time for all these calls here, a P12 counted as two P6. It is for
-              this machine alone: a camera takes its own time for a P6. Without
-              --measure no time is shown
+  --measure   also times sealing on this machine, which takes a moment, and shows what
+              falls to one P6 of it, with the work on its block, and an estimate of the
+              time for all these calls here, a P12 counted as two P6. It is for this
+              machine alone: a camera takes its own time. Without --measure no time is
+              shown
 
 More than 60 shots are refused with 9, and else a length above 1,048,576 with 10; the
 exit status is that number.

@@ -47,7 +47,7 @@ fn refused(lengths: &[u64], number: u32) -> Failure {
 /// and two for the P12, which has their rounds.
 const P6_A_RUN: usize = MAX_PICTURE_BYTES / 128 + 2 + 2;
 
-/// It is sealed so often for the clock, but not again after so long.
+/// At most so many seals are timed, and none is begun after so long.
 const RUNS: usize = 32;
 const LONG: Duration = Duration::from_millis(200);
 
