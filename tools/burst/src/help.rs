@@ -184,10 +184,10 @@ with twelve rounds (P12) and with six (P6), the closing seal included.
               is not kept. One for each shot in the order of firing, at most 60. None at
               all is a burst without shots
   --measure   also times sealing on this machine, which takes a moment, and shows what
-              falls to one P6 of it, with the work on its block, and an estimate of the
-              time for all these calls here, a P12 counted as two P6. It is for this
-              machine alone: a camera takes its own time. Without --measure no time is
-              shown
+              falls to one P6, with the work on its block, and an estimate of the time
+              for all these calls here, a P12 counted as two P6. It is for
+              this machine alone: a camera takes its own time. Without --measure no time
+              is shown
 
 More than 60 shots are refused with 9, and else a length above 1,048,576 with 10; the
 exit status is that number.
