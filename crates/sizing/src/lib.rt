@@ -26,10 +26,10 @@ pub struct Size {
 }
 
 // What is added up: the bytes of header and records, the next picture's place, and the padded blocks of the records.
-pub struct Sums {
-    pub used: u64,
-    pub kept: Place,
-    pub blocks: u64,
+struct Sums {
+    used: u64,
+    kept: Place,
+    blocks: u64,
 }
 
 // The whole list is judged for 9 before a length is looked at.
