@@ -129,7 +129,7 @@ uint32_t burst_record(const uint8_t *key, size_t key_len,
  *                 every keep and drop and the close, and one byte less does not
  *   *p12, *p6     how often the permutation runs while the burst is recorded, with twelve rounds and with six, the closing seal included
  * Refusals 9 for more than 60 shots, then 10 for a length above 1,048,576. Where it refuses, all three numbers are 0. The count is judged
- * before a length is looked at. Its time grows with count alone. */
+ * before a length is looked at. Its time grows with count, and not with the lengths. */
 uint32_t burst_size_up(const uint64_t *lengths, size_t count,
                        uint64_t *file_length, uint64_t *p12, uint64_t *p6);
 
