@@ -1,1 +1,2 @@
 // A number as its binary digits. This crate has definitions (specs/) and laws (proofs/), and no code.
+#![tactic(auto)]

@@ -1,6 +1,8 @@
 // The blocks of ICEPOLE (003, 2.6 to 2.9): words and bytes of a block, runs of blocks, the keyed state, the tag, and whole messages whose sizes fit.
 // Every function here is internal: only crates of ours call them, and each has tested before what a `requires` here wants. The calls that test are those of the
 // crates `icepole` and `strips`. A state is worked on in place; the contracts speak of its bytes.
+#![tactic(auto)]
+
 ghost use Rattle.std.specs.Prelude.{◌≡◌, ◌++◌, ◌+◌, ◌*◌, ◌^◌, ◌%◌, ◌≤◌, ◌<◌, length, take, drop};
 ghost use Rattle.bits.specs.Bits.{word_range};
 ghost use Rattle.bytes_le.specs.Bytes.{le, put_bytes, same};
@@ -13,7 +15,7 @@ ghost use Rattle.blocks.specs.Bounds.{Bounded};
 use state_bytes::STATE_BYTES;
 
 // The sizes of a variant, in bytes.
-#[derive(Drop)]
+#[derive(Clone, Copy)]
 pub struct Sizes {
     pub key: usize,
     pub nonce: usize,

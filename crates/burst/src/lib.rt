@@ -1,4 +1,6 @@
 // The burst file: its editions, its sealed parts, and the recorder (01, "The burst file", "Recorder"; 02, N1).
+#![tactic(auto)]
+
 ghost use Rattle.std.specs.Prelude.{◌≡◌, ◌++◌, ◌+◌, ◌-◌, ◌*◌, ◌≤◌, ◌<◌, ◌^◌, length, take, replicate};
 ghost use Rattle.bytes_le.specs.Bytes.{Bytes, put_bytes};
 ghost use Rattle.burst.specs.Fields.{offset_width, entry_length};
@@ -15,11 +17,11 @@ use icepole::{
 };
 
 // A shot number (01): counts firings from 1.
-#[derive(Drop)]
+#[derive(Clone, Copy)]
 pub struct Shot(pub u16);
 
 // A place (01): counts kept pictures from 0.
-#[derive(Drop)]
+#[derive(Clone, Copy)]
 pub struct Place(pub u16);
 
 // The refusal numbers of recorder and reader (01, "Turned down, by example"; 02, N1), after those of `icepole`.
@@ -83,7 +85,7 @@ pub const ENTRY_LENGTH: usize = PICTURE_LENGTH_AT + OFFSET_WIDTH;
 
 // ---- the editions
 // The facts of an edition: its number in the header, the bytes of its header, its most shots, and the bytes of its camera number.
-#[derive(Drop)]
+#[derive(Clone, Copy)]
 pub struct Edition {
     pub number: u16,
     pub header: u32,
@@ -144,14 +146,14 @@ pub const MARK_BYTES: usize = SECRET_BYTES;
 pub const SEAL_LENGTH: u32 = (MARK_BYTES + TAG_BYTES) as u32;
 
 // What names a burst under its key: its number, and the camera's, 0 in an edition that has none.
-#[derive(Drop)]
+#[derive(Clone, Copy)]
 pub struct Name {
     pub burst_number: u64,
     pub camera: u32,
 }
 
 // An index entry: the record's offset in the file and the picture's length. `zeros` is the entry's field that is always zero.
-#[derive(Drop)]
+#[derive(Clone, Copy)]
 pub struct Entry {
     pub shot: Shot,
     pub zeros: u16,
@@ -160,7 +162,7 @@ pub struct Entry {
 }
 
 // What a burst is recorded with. Proofs reach the arrays by position: a new field goes behind `closed`.
-#[derive(Drop)]
+#[derive(Clone, Copy)]
 pub struct Recorder {
     pub key: [u8; KEY_BYTES],
     pub burst_number: u64,
@@ -178,14 +180,14 @@ pub struct Recorder {
 
 // What the calls answer: a refusal number, 0 when done, its mark, and the rest, which is zero with a refusal. A refused keep, drop or close returns the
 // recorder it was given, a refused begin a closed one, otherwise zero.
-#[derive(Drop)]
+#[derive(Clone, Copy)]
 pub struct Begun {
     pub refusal: u32,
     pub mark: u32,
     pub recorder: Recorder,
 }
 
-#[derive(Drop)]
+#[derive(Clone, Copy)]
 pub struct ShotAnswer {
     pub refusal: u32,
     pub mark: u32,
@@ -193,7 +195,7 @@ pub struct ShotAnswer {
     pub recorder: Recorder,
 }
 
-#[derive(Drop)]
+#[derive(Clone, Copy)]
 pub struct Closed {
     pub refusal: u32,
     pub mark: u32,

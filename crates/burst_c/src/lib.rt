@@ -1,4 +1,6 @@
 // The C calls of include/burst.h.
+#![tactic(auto)]
+
 ghost use Rattle.std.specs.Prelude.{◌≡◌, cond, ◌≤◌, length};
 ghost use Rattle.bytes_le.specs.Bytes.{put_bytes};
 ghost use Rattle.reader.specs.Reader.{check_mark, record_refusal, record_offset, record_bytes_in};

@@ -1,4 +1,6 @@
 // Bytes put into a lent buffer, and numbers as little-endian bytes. Internal: only crates of ours call these functions.
+#![tactic(auto)]
+
 ghost use Rattle.std.specs.Prelude.{◌≡◌, ◌+◌, ◌≤◌, ◌<◌, ◌^◌, length, take, drop};
 ghost use Rattle.bytes_le.specs.Bytes.{put_bytes, le, unle, le_at};
 

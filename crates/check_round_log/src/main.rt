@@ -1,4 +1,6 @@
 // Judges the round log on standard input (02, N9), and prints the verdict in one line.
+#![tactic(auto)]
+
 ghost use Rattle.std.specs.Prelude.{◌≡◌, ◌++◌, ◌+◌, ◌≤◌, length};
 ghost use Rattle.bytes_le.specs.Bytes.{put_bytes};
 ghost use Rattle.plain_text.specs.Text.{max_digits, field};

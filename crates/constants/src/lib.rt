@@ -1,5 +1,7 @@
 // Where the tables of the permutation come from (02, N8): Keccak-f[1600] of FIPS 202, whose lanes are the starting words, and a step rule that gives the round
 // constants. There is no table here: the offsets of rho and the constants of iota are worked out by the standard's rules. The cipher calls nothing of this.
+#![tactic(auto)]
+
 ghost use Rattle.std.specs.Prelude.{◌≡◌, ◌<◌};
 ghost use Rattle.bits.specs.Bits.{word_length};
 ghost use Rattle.constants.specs.Keccak.{θ, ρ, π, χ, ι, Rnd, keccak_f, register_turn, iota_constant};

@@ -1,4 +1,6 @@
 // The C calls of include/core.h, for those who test the hardware core.
+#![tactic(auto)]
+
 ghost use Rattle.std.specs.Prelude.{◌≡◌, length};
 ghost use Rattle.round_log.specs.RoundLog.{verdict};
 ghost use Rattle.rounds_back.specs.declared.Direction.TheVariants.{Back, Forward};

@@ -1,5 +1,7 @@
 // ICEPOLE-128, 128a and 256a (003, 2.2, 2.10 and 2.11): the calls that seal, verify and open, what they turn down, and what they answer. The work on blocks is
 // done by the crate `blocks`.
+#![tactic(auto)]
+
 ghost use Rattle.std.specs.Prelude.{◌≡◌, true, [], ◌++◌, ◌+◌, ◌-◌, ◌<◌, leb};
 ghost use Rattle.state_bytes.specs.StateBytes.{bytes_of};
 ghost use Rattle.blocks.specs.Lengths.{tag_length};
@@ -10,7 +12,7 @@ ghost use Rattle.icepole.specs.Answers.{seal_number, open_number, seal_answer, s
 
 use blocks::Sizes;
 
-#[derive(Drop)]
+#[derive(Clone, Copy)]
 pub enum Variant {
     Icepole128,
     Icepole128a,
@@ -46,7 +48,7 @@ pub const NONCE_BYTES: usize = 16;
 pub const SECRET_BYTES: usize = 16;
 
 // What sealing answers: a refusal number with its mark, or the count of bytes written.
-#[derive(Drop)]
+#[derive(Clone, Copy)]
 pub struct Sealed {
     pub refusal: u32,
     pub mark: u32,
@@ -54,7 +56,7 @@ pub struct Sealed {
 }
 
 // What opening answers: a refusal number with its mark, or the message's length and the secret number. Bytes past the secret number are zero.
-#[derive(Drop)]
+#[derive(Clone, Copy)]
 pub struct Opened {
     pub refusal: u32,
     pub mark: u32,

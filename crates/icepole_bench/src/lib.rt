@@ -1,4 +1,6 @@
 // For benchmarks only: verifying under ICEPOLE-128 as C can call it.
+#![tactic(auto)]
+
 ghost use Rattle.std.specs.Prelude.{◌≡◌, true, ◌++◌};
 ghost use Rattle.icepole.specs.Answers.{open_refusal};
 

@@ -1,5 +1,7 @@
 // The calls of the camera's main firmware, which is in C: sealing, opening and opening in place, one of each for each variant, and strips of 128. Each returns the
 // refusal number, 0 when done. include/icepole.h declares them.
+#![tactic(auto)]
+
 ghost use Rattle.std.specs.Prelude.{◌≡◌, ◌++◌, ◌+◌, ◌≤◌, length};
 ghost use Rattle.bytes_le.specs.Bytes.{put_bytes};
 ghost use Rattle.blocks.specs.Lengths.{max_secret};

@@ -1,4 +1,6 @@
 // The lister (01, "Afterwards"; 02, N1): prints the front of the file on standard input. It needs no key.
+#![tactic(auto)]
+
 use libc::{STDIN_FILENO, STDOUT_FILENO};
 use listing::{MAX_LISTED, TEXT_ROOM};
 

@@ -1,4 +1,6 @@
 // The text that the lister prints for a file (01, "Afterwards"; 02, N1): no key, front rules only.
+#![tactic(auto)]
+
 ghost use Rattle.std.specs.Prelude.{◌≡◌, ◌+◌, ◌*◌, ◌≤◌, length};
 ghost use Rattle.bytes_le.specs.Bytes.{put_bytes};
 ghost use Rattle.burst.specs.Fields.{entry_length};
@@ -16,7 +18,7 @@ pub const MAX_LISTED: usize = 65536;
 pub const TEXT_ROOM: usize = 80 * MAX_ENTRIES;
 
 // What a listing answers: a refusal number with its mark, or the text's length.
-#[derive(Drop)]
+#[derive(Clone, Copy)]
 pub struct Listed {
     pub refusal: u32,
     pub mark: u32,

@@ -1,4 +1,6 @@
 // Internal: how many padded blocks a seal absorbs, from the lengths alone (02, N4).
+#![tactic(auto)]
+
 ghost use Rattle.std.specs.Prelude.{◌≡◌, suc, ◌+◌, ◌<◌, ◌≤◌, length};
 ghost use Rattle.bytes_le.specs.Bytes.{Bytes};
 ghost use Rattle.blocks.specs.Lengths.{max_length};

@@ -1,5 +1,7 @@
 // The permutation P of ICEPOLE, for a reader who has the paper's section 2.5 beside it: the tables, the five steps in the order of 2.5, the round, the rounds.
 // What stands in quotes is the paper's. Each step takes the state S by value and returns it; the rounds are done in place.
+#![tactic(auto)]
+
 ghost use Rattle.std.specs.Prelude.{◌≡◌, ◌≤◌, ◌<◌, get_or};
 ghost use Rattle.bits.specs.Bits.{word_length};
 ghost use Rattle.permutation.specs.Permutation.{μ, ρ, π, ψ, κ, R, P, constants, rotl, start};

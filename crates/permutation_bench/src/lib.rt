@@ -1,4 +1,6 @@
 // For benchmarks only: the permutation as C can call it.
+#![tactic(auto)]
+
 ghost use Rattle.std.specs.Prelude.{◌≡◌};
 ghost use Rattle.permutation.specs.State.{at};
 ghost use Rattle.permutation.specs.Permutation.{start, add_constant};

@@ -1,4 +1,6 @@
 // Prints P6 and P12 of fourteen states. The stored output was written by the Rust reference (tests/reference, permutation_vectors).
+#![tactic(auto)]
+
 use libc::STDOUT_FILENO;
 
 type State = [[u64; 5]; 4];

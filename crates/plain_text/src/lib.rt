@@ -1,4 +1,6 @@
 // Words and decimal numbers, put into a lent buffer as text in ASCII. Internal: only crates of ours call these functions.
+#![tactic(auto)]
+
 ghost use Rattle.std.specs.Prelude.{◌≡◌, ◌+◌, ◌≤◌, length, drop};
 ghost use Rattle.bytes_le.specs.Bytes.{put_bytes};
 ghost use Rattle.plain_text.specs.Text.{decimal, max_digits, field};
@@ -7,7 +9,7 @@ ghost use Rattle.plain_text.specs.Text.{decimal, max_digits, field};
 const MAX_DIGITS: usize = 20;
 
 // Decimal digits: those from `start` on.
-#[derive(Drop)]
+#[derive(Clone, Copy)]
 struct Digits {
     bytes: [u8; MAX_DIGITS],
     start: usize,

@@ -1,5 +1,7 @@
 // Prints the tables of the permutation as their generators make them (02, N8): the starting words in word order, then the round constants.
 // The stored output was written by the Rust reference (tests/reference, print_constants), by its own Keccak.
+#![tactic(auto)]
+
 ghost use Rattle.std.specs.Prelude.{◌≡◌, ◌<◌};
 ghost use Rattle.print_constants.specs.Text.{hex_line, number_on};
 ghost use Rattle.print_constants.specs.Text.{glyph as Text·glyph, text as Text·text};

@@ -1,4 +1,6 @@
 // The reader of bursts (01, "Reader"; 02, N1): check, fetch by place, and the sealed record of a place.
+#![tactic(auto)]
+
 ghost use Rattle.std.specs.Prelude.{◌≡◌, true, ◌+◌, ◌*◌, ◌≤◌, ◌<◌, length, take};
 ghost use Rattle.bytes_le.specs.Bytes.{put_bytes};
 ghost use Rattle.burst.specs.Fields.{fields_length, entry_length};
@@ -20,7 +22,7 @@ use burst::{
 use icepole::{KEY_BYTES, KEY_LENGTH, OUTPUT_TOO_SHORT, Opened, TAG_DIFFERS};
 
 // What check answers: a refusal number with its mark, or what the file says.
-#[derive(Drop)]
+#[derive(Clone, Copy)]
 pub struct Checked {
     pub refusal: u32,
     pub mark: u32,
@@ -34,7 +36,7 @@ pub struct Checked {
 }
 
 // Where the entry of a place stands in the file.
-#[derive(Drop)]
+#[derive(Clone, Copy)]
 pub struct Located {
     pub refusal: u32,
     pub mark: u32,
@@ -42,7 +44,7 @@ pub struct Located {
 }
 
 // What fetch answers.
-#[derive(Drop)]
+#[derive(Clone, Copy)]
 pub struct Fetched {
     pub refusal: u32,
     pub mark: u32,
@@ -52,7 +54,7 @@ pub struct Fetched {
 }
 
 // Whether the tags of some sealed parts agree, or the first shot whose tag differs, 0 for the closing seal.
-#[derive(Drop)]
+#[derive(Clone, Copy)]
 pub enum Verdict {
     Agree,
     Differs(Shot),
@@ -104,7 +106,7 @@ fn index_ok(f: &[u8], e: Edition, kept: Place, start: u32, taken: Shot) -> bool
 }
 
 // The numbers of the header's nine fields.
-#[derive(Drop)]
+#[derive(Clone, Copy)]
 pub struct Header {
     pub edition: u16,
     pub taken: Shot,

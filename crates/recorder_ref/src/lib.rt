@@ -1,4 +1,6 @@
 // Drop on a recorder that is lent and changed in place (01, "Recorder").
+#![tactic(auto)]
+
 ghost use Rattle.std.specs.Prelude.{◌≡◌};
 ghost use Rattle.burst.specs.Recorder.{drop_answer};
 

@@ -1,4 +1,6 @@
 // Performs a list of calls, given as bytes, on a real recorder and buffer, and writes every answer out.
+#![tactic(auto)]
+
 ghost use Rattle.std.specs.Prelude.{◌≡◌, false, ◌+◌, ◌*◌, ◌≤◌, ◌<◌, eqb, length, drop};
 ghost use Rattle.bytes_le.specs.Bytes.{put_bytes, le_at};
 ghost use Rattle.trace.specs.Trace.{answers_from, buffer_from};
@@ -22,7 +24,7 @@ const KEEP_FRONT: usize = 2 + NUMBER_WIDTH;
 const ANSWER_LENGTH: usize = NUMBER_WIDTH + NUMBER_WIDTH;
 
 // What one call of a script leaves: whether there was one, where the next stands, its answer and the recorder.
-#[derive(Drop)]
+#[derive(Clone, Copy)]
 pub struct Step {
     pub more: bool,
     pub next: usize,
@@ -114,7 +116,7 @@ fn perform(r: Recorder, script: &[u8], position: usize, buffer: &mut [u8]) -> St
 }
 
 // How many answers were written, and whether the whole script was performed.
-#[derive(Drop)]
+#[derive(Clone, Copy)]
 pub struct Performed {
     pub count: usize,
     pub whole: bool,

@@ -1,4 +1,6 @@
 // Round logs of the hardware core (02, N9): whether each state of a log is one round from the state before it.
+#![tactic(auto)]
+
 ghost use Rattle.std.specs.Prelude.{◌≡◌, ◌≤◌, eqb, length};
 ghost use Rattle.bytes_le.specs.Bytes.{same};
 ghost use Rattle.permutation.specs.Permutation.{max_rounds};
@@ -13,7 +15,7 @@ type State = [[u64; 5]; 4];
 type Column = [u64; 5];
 
 // What is said of a log: that every round agrees, and how many there are; or the first round that differs, counted from 0; or the refusal number.
-#[derive(Drop)]
+#[derive(Clone, Copy)]
 pub enum Verdict {
     Agrees(u32),
     Differs(u32),

@@ -1,5 +1,7 @@
 // Rounds of the core undone (02, N10), so that it can be driven to a chosen state. For a reader who has the rounds of `permutation` beside it: the inverse of each
 // step, in the paper's order, then of the round and of the rounds, and the two calls.
+#![tactic(auto)]
+
 ghost use Rattle.std.specs.Prelude.{◌≡◌, ◌≤◌, ◌<◌};
 ghost use Rattle.permutation.specs.Permutation.{constants, max_rounds, P};
 ghost use Rattle.rounds_back.specs.Inverse.{μ⁻¹, ρ⁻¹, π⁻¹, ψ⁻¹, R⁻¹, P⁻¹};
@@ -196,7 +198,7 @@ fn forward(s: State, n: usize) -> State
 }
 
 // Which way rounds are run.
-#[derive(Drop)]
+#[derive(Clone, Copy)]
 pub enum Direction {
     Back,
     Forward,
@@ -214,7 +216,7 @@ fn run(s: State, direction: Direction, n: usize) -> State
 }
 
 // The answer of the two calls: the refusal number, or 0, and the state as its bytes in word order.
-#[derive(Drop)]
+#[derive(Clone, Copy)]
 pub struct Driven {
     pub refusal: u32,
     pub state: [u8; STATE_BYTES],

@@ -1,5 +1,7 @@
 // Prints sealed messages of the three variants, of every two of ten edge lengths of message and associated data, and whether opening gives back what was sealed.
 // The stored output was written by the Rust reference (tests/reference, sealing_vectors).
+#![tactic(auto)]
+
 ghost use Rattle.std.specs.Prelude.{◌≡◌, ◌+◌, ◌≤◌, ◌<◌, length};
 
 use libc::STDOUT_FILENO;

@@ -1,5 +1,7 @@
 // Sizing up a burst before the trigger (02, N4): its file's length and how often the permutation runs, from the lengths of its pictures. And the card line on the
 // carton (02, N2): how many full bursts a card holds.
+#![tactic(auto)]
+
 ghost use Rattle.std.specs.Prelude.{◌≡◌, false, ◌+◌, ◌≤◌, length};
 ghost use Rattle.burst.specs.Editions.{Known, max_entries};
 ghost use Rattle.burst.specs.Layout.{max_picture};
@@ -14,7 +16,7 @@ use icepole::KEY_BYTES;
 pub const SHOT_COUNT: u32 = 16;
 
 // What sizing up answers: a refusal number with its mark, or the file's length and how often the permutation runs with twelve and with six rounds.
-#[derive(Drop)]
+#[derive(Clone, Copy)]
 pub struct Size {
     pub refusal: u32,
     pub mark: u32,
@@ -24,7 +26,7 @@ pub struct Size {
 }
 
 // What is added up: the bytes of header and records, the next picture's place, and the padded blocks of the records.
-#[derive(Drop)]
+#[derive(Clone, Copy)]
 struct Sums {
     used: u64,
     kept: Place,
@@ -110,7 +112,7 @@ pub fn size_up(lengths: &[u64]) -> Size
 }
 
 // What the card line answers: a refusal number with its mark, or how many full bursts the card holds and the bytes left.
-#[derive(Drop)]
+#[derive(Clone, Copy)]
 pub struct CardLine {
     pub refusal: u32,
     pub mark: u32,

@@ -1,4 +1,6 @@
 // The state of ICEPOLE: its words, read and written one by one, with contracts that speak of its bytes. Internal: only crates of ours call these functions.
+#![tactic(auto)]
+
 ghost use Rattle.std.specs.Prelude.{◌≡◌, ℕ, ◌+◌, ◌*◌, ◌≤◌, ◌<◌, length, take, drop};
 ghost use Rattle.bits.specs.Bits.{word_range};
 ghost use Rattle.bytes_le.specs.Bytes.{le, put_bytes};

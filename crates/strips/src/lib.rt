@@ -1,5 +1,7 @@
 // A message sealed in strips under ICEPOLE-128 (01, "Afterwards"): start, then strips of message, then the end. For every cutting the bytes equal whole
 // sealing.
+#![tactic(auto)]
+
 ghost use Rattle.std.specs.Prelude.{◌≡◌, ◌++◌, ◌+◌, ◌≤◌, length, take, drop};
 ghost use Rattle.bytes_le.specs.Bytes.{put_bytes};
 ghost use Rattle.icepole.specs.declared.Variant.TheVariants.{Icepole128};
@@ -19,7 +21,7 @@ pub const STRIP_STATE: u32 = 14;
 type State = [[u64; 5]; 4];
 
 // Between two strips: the state's bytes, with the block that waits xored in, and how many bytes of the message came. It may be made by anybody.
-#[derive(Drop)]
+#[derive(Clone, Copy)]
 pub struct StripState {
     pub bytes: [u8; STATE_BYTES],
     pub count: usize,
@@ -28,7 +30,7 @@ pub struct StripState {
 
 // What each call answers: a refusal number with its mark, or the count of bytes written and the state for the next call. A call turned down returns the state
 // it was given; a start, a finished one.
-#[derive(Drop)]
+#[derive(Clone, Copy)]
 pub struct StripAnswer {
     pub refusal: u32,
     pub mark: u32,
