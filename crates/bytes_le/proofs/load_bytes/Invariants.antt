@@ -1,0 +1,16 @@
+-- `bytes_le::load_bytes` meets its contract. The loop's invariant: x is the number of the n high bytes.
+-- Assumes nothing.
+use mathlib.Core.Path.{◌≡◌, refl, sym, ap, ap₂, ◌∙◌}
+use Prim.Native.Nat.{ℕ, ◌+◌, ◌-◌, ◌*◌, ◌^◌, ◌<◌, ◌≤◌}
+use native.Mathlib.Omega.{arith}
+use native.Mathlib.Numerals.{add-one}
+use lib.ListN.{length, take, drop, get_or}
+use Rattle.bytes_le.specs.Bytes.{le, unle, le_at}
+use Rattle.bytes_le.proofs.Loads.{fits, grow, one_more, one-more-byte}
+use Rattle.bytes_le.proofs.load_bytes.Given as goal
+
+abbrev pub invariant-loop-j : goal.invariant-loop-j
+invariant-loop-j l = (l.j ≤ l.n) × (l.x ≡ unle (take l.j (drop (l.at + (l.n - l.j)) l.b))) × (l.x < 256 ^ l.j) × (le l.j l.x ≡ take l.j (drop (l.at + (l.n - l.j)) l.b))
+
+abbrev pub decreases-loop-j : goal.decreases-loop-j
+decreases-loop-j l = l.n - l.j
