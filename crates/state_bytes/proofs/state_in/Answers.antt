@@ -9,24 +9,12 @@ use borrow.Author.Rules.{rules}
 use Rattle.bytes_le.specs.Bytes.{Bytes}
 use Rattle.state_bytes.specs.StateBytes.{state_length, state_of}
 use Rattle.state_bytes.proofs.View.{state-of-bytes}
-use Rattle.state_bytes.proofs.state_in.Statement.{statement}
-use Rattle.state_bytes.proofs.state_in.Tie as tie
+use Rattle.state_bytes.proofs.state_in.Goals as goal
 
-returns : tie.Need-returns
+pub returns : goal.returns
 returns c =
-    let a = c.before.before.before.before.before.args in
+    let a = c.args in
     let h = c.shaped.ensures in
     let b : Bytes = a.b.now in
     let rest = take_all (length b - a.at) (drop a.at b) (rw length-drop (omega arith)) in
-    sym (state-of-bytes _ h.0 h.1) ∙ ap state_of (c.before.load-state.ensures ∙ ap (take state_length) rest)
-
-pub state-in-spec : {M : Type 1} → statement M
-state-in-spec =
-    tie.close
-    (tie.spec
-    (λ c. search rules)
-    (λ c. search rules)
-    (λ c. search rules)
-    (λ c κs. search rules)
-    (λ c κs. search rules)
-    returns)
+    sym (state-of-bytes _ h.0 h.1) ∙ ap state_of (c.load_state.ensures ∙ ap (take state_length) rest)

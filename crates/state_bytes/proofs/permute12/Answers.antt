@@ -1,0 +1,12 @@
+-- `state_bytes::permute12` meets its contract: the rounds on words are the rounds on bytes.
+-- Assumes nothing.
+use mathlib.Core.Path.{ap, ◌∙◌}
+use borrow.Author.Rules.{rules}
+use Rattle.state_bytes.specs.StateBytes.{bytes_of}
+use Rattle.state_bytes.proofs.View.{permuted-bytes}
+use Rattle.state_bytes.proofs.permute12.Goals as goal
+
+pub returns : goal.returns
+returns c =
+    let h = c.shaped.ensures in
+    ap bytes_of c.permute12.ensures ∙ permuted-bytes 12 c.args.s.now h.0 h.1
