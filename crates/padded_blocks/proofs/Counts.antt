@@ -6,12 +6,13 @@ use Prim.Native.Nat.{ℕ, zero, suc, ◌+◌}
 use native.Mathlib.Omega.{arith}
 use lib.ListN.{length, take, drop, length-append}
 use Rattle.bytes_le.specs.Bytes.{Bytes}
-use Rattle.blocks.specs.Sealing.{◌⊕₈◌, absorb, absorb_blocks, absorb_associated, absorb_message, blocks_before, encrypt, keyed, ready, tag, sealed}
+use Rattle.state_bytes.specs.StateBytes.{permuted}
+use Rattle.blocks.specs.Sealing.{◌⊕₈◌, xor_with, absorb, absorb_blocks, absorb_associated, absorb_message, blocks_before, encrypt, keyed, ready, tag, sealed}
 use Rattle.padded_blocks.specs.PaddedBlocks.{in_blocks, padded_blocks, seal_blocks, Permuting, permuting, state_after, calls_of, seal_calls, SealingState, SealedBy}
 
 pub after-append : (v : Bytes) (cs ds : List Permuting) → state_after v (cs ++ ds) ≡ state_after (state_after v cs) ds
 after-append v [] ds = refl
-after-append v (c ∷ cs) ds = after-append _ cs ds
+after-append v (c ∷ cs) ds = after-append (permuted c.rounds (xor_with v c.input)) cs ds
 
 map-append : (xs ys : List Bytes) → map (permuting 6) (xs ++ ys) ≡ map (permuting 6) xs ++ map (permuting 6) ys
 map-append [] ys = refl

@@ -1,0 +1,17 @@
+-- `blocks::seal_into` meets its contract: the three runs of bytes touch.
+-- Assumes nothing.
+use mathlib.Core.List.{◌++◌}
+use native.Mathlib.Omega.{arith}
+use borrow.Author.Rules.{rules}
+use Rattle.blocks.proofs.Whole.{sealed-runs}
+use Rattle.blocks.proofs.seal_into.Goals as goal
+
+pub overflow_add-n : goal.overflow_add-n
+overflow_add-n c =
+    omega (arith, c.requires, c.well_formed)
+
+pub returns : goal.returns
+returns c =
+    let a = c.args in
+    sealed-runs a.q c.requires.0 a.key.now a.nonce.now a.secret.now (a.first.now ++ a.second.now) a.message.now a.out.now
+    c.requires.3 c.requires.5 c.seal_ready.ensures.0 c.seal_ready.ensures.1 c.encrypt_message.ensures.0 c.encrypt_message.ensures.1 c.put_tag.ensures
