@@ -25,7 +25,7 @@ returns-then-number-ne0 c =
 pub seal_into-requires : goal.seal_into-requires
 seal_into-requires c =
     let w = seal-fits _ _ _ _ _ _ _ (sym c.seal_number_of-number.ensures ∙ c.if-number-ne0.false) in
-    (bounds (goal.at.seal_into-requires c).After-sizes_of-q w.key, w.nonce, w.secret, w.associated, w.out)
+    (bounds (goal.at.seal_into-requires c).After-sizes_of-q, w.key, w.nonce, w.secret, w.associated, w.out)
 
 pub overflow_add-result-2 : goal.overflow_add-result-2
 overflow_add-result-2 c =

@@ -1,0 +1,25 @@
+-- `burst::begin_number` meets its contract.
+-- Assumes nothing.
+use mathlib.Core.Path.{sym, ◌∙◌}
+use native.Mathlib.Omega.{arith}
+use borrow.Author.Rules.{rules}
+use Rattle.burst.proofs.Numbers.{begin-1, begin-3, begin-15, begin-11, begin-0}
+use Rattle.burst.proofs.begin_number.Goals as goal
+
+pub returns-then-key-ne-KEY_BYTES : goal.returns-then-key-ne-KEY_BYTES
+returns-then-key-ne-KEY_BYTES c = begin-1 _ _ _ _ _ c.if-key-ne-KEY_BYTES.true
+
+pub returns-then-site_mark-ne-MARK_BYTES : goal.returns-then-site_mark-ne-MARK_BYTES
+returns-then-site_mark-ne-MARK_BYTES c = begin-3 _ _ _ _ _ (omega arith) c.if-site_mark-ne-MARK_BYTES.true
+
+pub returns-then-no_camera : goal.returns-then-no_camera
+returns-then-no_camera c = begin-15 _ _ _ _ _ (omega arith) (omega arith) (sym c.no_camera.ensures ∙ c.if-no_camera.true)
+
+pub overflow_add-e : goal.overflow_add-e
+overflow_add-e c = let k = c.requires in omega (arith, k)
+
+pub returns-then-buffer-e : goal.returns-then-buffer-e
+returns-then-buffer-e c = begin-11 _ _ _ _ _ (omega arith) (omega arith) (sym c.no_camera.ensures ∙ c.if-no_camera.false) (omega arith)
+
+pub returns : goal.returns
+returns c = begin-0 _ _ _ _ _ (omega arith) (omega arith) (sym c.no_camera.ensures ∙ c.if-no_camera.false) (omega arith)

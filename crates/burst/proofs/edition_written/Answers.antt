@@ -1,0 +1,9 @@
+-- `burst::edition_written` meets its contract.
+-- Assumes nothing.
+use mathlib.Core.Path.{◌∙◌}
+use borrow.Author.Rules.{rules}
+use Rattle.burst.proofs.Rows.{written-numbered}
+use Rattle.burst.proofs.edition_written.Goals as goal
+
+pub returns : goal.returns
+returns c = (c.edition_numbered.ensures.0 ∙ written-numbered _, c.edition_numbered.ensures.1)

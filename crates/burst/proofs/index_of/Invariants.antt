@@ -1,0 +1,19 @@
+-- `burst::index_of` meets its contract. The loop's invariant: the first i entries are put.
+-- Assumes nothing.
+use mathlib.Core.Path.{◌≡◌, refl, ap, ◌∙◌}
+use Prim.Native.Nat.{ℕ, ◌-◌, ◌*◌, ◌≤◌}
+use native.Mathlib.Omega.{arith}
+use borrow.Author.Rules.{rules}
+use lib.ListN.{length, take, get_or, length-map}
+use Rattle.burst.specs.Editions.{max_entries}
+use Rattle.burst.specs.Layout.{max_index}
+use Rattle.burst.specs.Index.{entry_of, index_bytes}
+use Rattle.burst.specs.Recorder.{recorder_index}
+use Rattle.burst.proofs.Puts.{index-turn, length-entry-of}
+use Rattle.burst.proofs.index_of.Given as goal
+
+abbrev pub invariant-loop-i : goal.invariant-loop-i
+invariant-loop-i l = (l.i ≤ l.n) × (l.at ≡ 12 * l.i) × (length l.b ≡ max_index) × (take l.at l.b ≡ index_bytes (take l.i l.r.entries))
+
+abbrev pub decreases-loop-i : goal.decreases-loop-i
+decreases-loop-i l = l.n - l.i

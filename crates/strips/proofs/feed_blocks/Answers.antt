@@ -1,0 +1,36 @@
+-- `strips::feed_blocks` meets its contract. The loop's invariant: what is left gives, from here on, what the whole was to give.
+-- Assumes nothing.
+use mathlib.Core.Path.{◌≡◌, refl, ap, ◌∙◌}
+use Prim.Native.Nat.{◌-◌, ◌≤◌}
+use native.Mathlib.Omega.{arith}
+use borrow.Author.Rules.{rules}
+use lib.ListN.{length, drop}
+use Rattle.bytes_le.specs.Bytes.{put_bytes}
+use Rattle.state_bytes.specs.StateBytes.{bytes_of}
+use Rattle.state_bytes.proofs.Lengths.{length-bytes}
+use Rattle.strips.specs.Machine.{Held, held, fed, fed_bytes}
+use Rattle.strips.proofs.Turns.{block-fed, block-put}
+use Rattle.strips.proofs.feed_blocks.Goals as goal
+
+pub loop-at-init : goal.loop-at-init
+loop-at-init c = (omega arith, refl, refl, refl)
+
+pub loop-at-preserved : goal.loop-at-preserved
+loop-at-preserved c =
+    let l = c.loop-at in
+    let m = c.args.m.now in
+    let h = c.loop-at-test.true in
+    let q = c.encrypt_words.ensures in
+    let f = c.finish.ensures in
+    let s = bytes_of l.s in (
+      omega arith,
+      block-fed m l.at h s _ _ (length-bytes l.s) q.0 f ∙ l.invariant.1,
+      block-put m l.at h s _ _ (length-bytes l.s) q.0 f l.out _ (omega arith) q.1 ∙ l.invariant.2,
+      search rules,
+    )
+
+pub returns : goal.returns
+returns c =
+    let q = c.feed_last.ensures in
+    let l = c.loop-at in
+    (q.0 ∙ ap (λ (k : Held). k.state) l.invariant.1, q.1 ∙ l.invariant.2)
