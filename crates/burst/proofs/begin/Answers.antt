@@ -15,15 +15,12 @@ use Rattle.burst.proofs.begin.Goals as goal
 use Rattle.burst.proofs.begin.Goals.{Else-number-ne0, Start}
 
 abbrev identity : Start → Identity
-identity c = identified c.args.burst-number c.args.camera c.args.site-mark.now
+identity c = identified c.args.burst_number c.args.camera c.args.site_mark.now
 
 -- what is known once no number stands against the call
-abbrev start : Else-number-ne0 → Start
-start c = c.before.before.before.before.before.before
-
 good : (c : Else-number-ne0)
-    → Begins c.edition_written-e.result (length (start c).args.key.now) (length (start c).args.site-mark.now) (start c).args.camera
-    (length (start c).args.buffer.now)
+    → Begins c.edition_written-e.result (length c.args.key.now) (length c.args.site_mark.now) c.args.camera
+    (length c.args.buffer.now)
 good c = begins _ _ _ _ _ (sym c.begin_number-number.ensures ∙ c.if-number-ne0.false)
 
 pub returns-then-number-ne0 : goal.returns-then-number-ne0
@@ -60,6 +57,6 @@ returns c =
     let e = c.edition_written-e.result in
     begin-done a.key.now (identity (goal.at.returns c).Start) a.buffer.now e c.edition_written-e.ensures.0 (sym c.begin_number-number.ensures ∙ c.if-number-ne0.false)
     _ (c.new_recorder-2.ensures
-    ∙ ap₂ (λ (k m : Bytes). new_recorder k (identified a.burst-number a.camera m) e.header false) c.array_of-k.ensures
+    ∙ ap₂ (λ (k m : Bytes). new_recorder k (identified a.burst_number a.camera m) e.header false) c.array_of-k.ensures
     c.array_of-m.ensures)
     _ (c.put_bytes.ensures.1 ∙ ap (put_bytes a.buffer.now 0) (header-zeros e c.edition_written-e.ensures.1))

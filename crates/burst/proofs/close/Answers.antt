@@ -41,9 +41,9 @@ good c =
 abbrev header : Edition → Recorder → Bytes
 header e r = header_bytes e (name_of r) r.taken.0 r.kept.0 (r.taken.0 - r.kept.0) r.used
 
-headed : (c : After-header_of-header) → (length c.header_of-header.result ≡ max_header)
-    × (take c.edition_of-e.result.header c.header_of-header.result ≡ header c.edition_of-e.result (given c.before))
-headed c = header-front _ _ _ _ _ _ (good c.before).known _ c.header_of-header.ensures
+headed : (c : After-header_of-header) → Known c.edition_of-e.result → (length c.header_of-header.result ≡ max_header)
+    × (take c.edition_of-e.result.header c.header_of-header.result ≡ header c.edition_of-e.result c.args.r)
+headed c k = header-front _ _ _ _ _ _ k _ c.header_of-header.ensures
 
 pub returns-then-number-ne0 : goal.returns-then-number-ne0
 returns-then-number-ne0 c =
@@ -59,11 +59,11 @@ pub index_of-index-requires : goal.index_of-index-requires
 index_of-index-requires c = let g = good (goal.at.index_of-index-requires c).Else-number-ne0 in omega (arith, g)
 
 pub slice_bounds-header-end : goal.slice_bounds-header-end
-slice_bounds-header-end c = let g = good (goal.at.slice_bounds-header-end c).Else-number-ne0 in omega (arith, g, (headed (goal.at.slice_bounds-header-end c).After-header_of-header).0)
+slice_bounds-header-end c = let g = good (goal.at.slice_bounds-header-end c).Else-number-ne0 in omega (arith, g, (headed (goal.at.slice_bounds-header-end c).After-header_of-header g.known).0)
 
 pub slice_bounds-put_end-end : goal.slice_bounds-put_end-end
 slice_bounds-put_end-end c =
-    let g = good (goal.at.slice_bounds-put_end-end c).Else-number-ne0 in sym (length-take-le c.edition_of-e.result.header c.header_of-header.result (omega (arith, g, (headed (goal.at.slice_bounds-put_end-end c).After-header_of-header).0)))
+    let g = good (goal.at.slice_bounds-put_end-end c).Else-number-ne0 in sym (length-take-le c.edition_of-e.result.header c.header_of-header.result (omega (arith, g, (headed (goal.at.slice_bounds-put_end-end c).After-header_of-header g.known).0)))
 
 pub slice_bounds-index-end : goal.slice_bounds-index-end
 slice_bounds-index-end c =
@@ -79,7 +79,7 @@ put_end-requires c =
     let g = good (goal.at.put_end-requires c).Else-number-ne0 in
     let n = c.index_length-n.ensures in
     let l = length-take-le c.index_length-n.result c.index_of-index.result (omega (arith, g, n, c.index_of-index.ensures.0)) in
-    let m = length-take-le c.edition_of-e.result.header c.header_of-header.result (omega (arith, g, (headed (goal.at.put_end-requires c).After-header_of-header).0)) in
+    let m = length-take-le c.edition_of-e.result.header c.header_of-header.result (omega (arith, g, (headed (goal.at.put_end-requires c).After-header_of-header g.known).0)) in
     (omega (arith, g, m), omega (arith, g, n, l), omega (arith, g, m), omega (arith, g, n, l))
 
 pub overflow_cast-total : goal.overflow_cast-total
@@ -104,5 +104,5 @@ returns c =
     let p = close-done r e c.edition_of-e.ensures.0 b (sym c.close_number-number.ensures ∙ c.if-number-ne0.false) _
     (c.put_end.ensures
     ∙ ap₂ (λ (h x : Bytes). put_bytes (put_bytes b 0 h) r.used (x ++ closing_seal e r.key (identity_of r) h x))
-    (headed (goal.at.returns c).After-header_of-header).1 (ap (λ (k : ℕ). take k c.index_of-index.result) n ∙ c.index_of-index.ensures.1)) in
+    (headed (goal.at.returns c).After-header_of-header c.edition_of-e.ensures.1).1 (ap (λ (k : ℕ). take k c.index_of-index.result) n ∙ c.index_of-index.ensures.1)) in
     (ap (λ (k : ℕ). let y : Closed = record { refusal = 0; mark = 0; total = r.used + k + seal_length; recorder = after_close r } in y) n ∙ p.0, p.1)

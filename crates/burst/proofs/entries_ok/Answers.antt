@@ -22,7 +22,7 @@ returns-then-not-entry_ok c =
     let a = c.args in
     sym
     (l.invariant.2
-    ∙ fault a.t1 a.kept.0 l.i (entry_of 0 0 0) (omega arith) (let z = sized (goal.at.returns-then-not-entry_ok c).Start in omega arith) l.last l.offset a.taken.0 a.end
+    ∙ fault a.entries a.kept.0 l.i (entry_of 0 0 0) (omega arith) (let z = sized (goal.at.returns-then-not-entry_ok c).Start in omega arith) l.last l.offset a.taken.0 a.end
     (sym c.entry_ok.ensures ∙ c.if-not-entry_ok.true))
 
 pub overflow_add-offset : goal.overflow_add-offset
@@ -40,14 +40,14 @@ loop-i-preserved c =
       omega arith,
       omega (arith, w),
       l.invariant.2
-          ∙ turn a.t1 a.kept.0 l.i (entry_of 0 0 0) (omega arith) (let z = sized (goal.at.loop-i-preserved c).Start in omega arith) l.last l.offset a.taken.0 a.end e,
+          ∙ turn a.entries a.kept.0 l.i (entry_of 0 0 0) (omega arith) (let z = sized (goal.at.loop-i-preserved c).Start in omega arith) l.last l.offset a.taken.0 a.end e,
     )
 
 pub returns : goal.returns
 returns c =
     let l = c.loop-i in
     let a = c.args in
-    sym (l.invariant.2 ∙ ended a.t1 a.kept.0 l.i l.last l.offset a.taken.0 a.end (omega arith))
+    sym (l.invariant.2 ∙ ended a.entries a.kept.0 l.i l.last l.offset a.taken.0 a.end (omega arith))
 
 pub loop-i-init : goal.loop-i-init
 loop-i-init c = (omega arith, omega arith, refl)

@@ -11,7 +11,6 @@ use Rattle.burst.specs.Index.{entry_of, index_bytes}
 use Rattle.burst.specs.Recorder.{recorder_index}
 use Rattle.burst.proofs.Puts.{index-turn, length-entry-of}
 use Rattle.burst.proofs.index_of.Goals as goal
-use Rattle.burst.proofs.index_of.Goals.{Start}
 
 pub loop-i-init : goal.loop-i-init
 unfolding index_bytes
@@ -19,16 +18,15 @@ loop-i-init c = (omega arith, refl, refl, refl)
 
 pub loop-i-preserved : goal.loop-i-preserved
 loop-i-preserved c =
-    let s = (goal.at.loop-i-preserved c).Start in
     let l = c.loop-i in
     let p = c.put_entry-at in
-    let z : length s.args.t1.entries ≡ max_entries = simp length-map at s.well-formed.0.1.1.1.1.1.1.1.1.0.1.0.1 in
-    let w = length-entry-of (get_or s.args.t1.entries l.i (entry_of 0 0 0)) in (
+    let z : length c.args.r.entries ≡ max_entries = c.well_formed.0.1.1.1.1.1.1.1.1.0.1.0.1 in
+    let w = length-entry-of (get_or c.args.r.entries l.i (entry_of 0 0 0)) in (
       omega arith,
       omega arith,
-      p.auto.0 ∙ l.invariant.2,
-      ap (λ (k : ℕ). take k p.new.0) p.ensures.0
-          ∙ index-turn s.args.t1.entries (entry_of 0 0 0) l.b p.new.0 l.i l.at (omega arith) l.invariant.1 (omega arith) p.ensures.1 l.invariant.3,
+      p.auto.out ∙ l.invariant.2,
+      ap (λ (k : ℕ). take k p.new.out) p.ensures.0
+          ∙ index-turn c.args.r.entries (entry_of 0 0 0) l.b p.new.out l.i l.at (omega arith) l.invariant.1 (omega arith) p.ensures.1 l.invariant.3,
     )
 
 pub returns : goal.returns

@@ -16,7 +16,7 @@ returns c =
     ap (λ (x : Entry). let r : Recorder = record {
       key = a.key;
       burst_number = a.name.burst_number;
-      site_mark = a.site-mark;
+      site_mark = a.site_mark;
       taken = record { 0 = 0 };
       kept = record { 0 = 0 };
       used = a.used;

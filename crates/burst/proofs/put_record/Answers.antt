@@ -19,7 +19,7 @@ use Rattle.burst.proofs.put_record.Goals as goal
 
 pub slice_bounds-seal_part-end : goal.slice_bounds-seal_part-end
 slice_bounds-seal_part-end c =
-    sym (c.well_formed.1.0.1.1.0.1.0.1)
+    sym c.well_formed.1.0.1.1.0.1.0.1
 
 pub seal_part-requires : goal.seal_part-requires
 seal_part-requires c =
