@@ -24,8 +24,8 @@ records-sealed : (e : Edition) (key : Bytes) (name : Name) (n at : ℕ) (xs : Li
     → records e key name n at xs ≡ sealed_bytes e key name (record_seals n at xs)
 unfolding record_bytes
 records-sealed e key name n at [] = refl
-records-sealed e key name n at (kept s p ∷ xs) = ap (λ (l : Bytes). record_bytes e key name n at s p ++ l) (records-sealed e key name _ _ xs)
-records-sealed e key name n at (gap ∷ xs) = records-sealed e key name _ at xs
+records-sealed e key name n at (kept s p ∷ xs) = ap (λ (l : Bytes). record_bytes e key name n at s p ++ l) (records-sealed e key name (n + 1) _ xs)
+records-sealed e key name n at (gap ∷ xs) = records-sealed e key name (n + 1) at xs
 
 sealed-append : (e : Edition) (key : Bytes) (name : Name) (xs ys : List Seal) → sealed_bytes e key name (xs ++ ys) ≡ sealed_bytes e key name xs ++ sealed_bytes e key name ys
 sealed-append e key name [] ys = refl

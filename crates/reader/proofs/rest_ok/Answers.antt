@@ -1,0 +1,20 @@
+-- `reader::rest_ok` meets its contract: the camera number, then the zeros.
+-- Assumes nothing.
+use mathlib.Core.Path.{◌≡◌, sym, ap, ◌∙◌}
+use borrow.Author.Rules.{rules}
+use Rattle.burst.specs.Editions.{no_camera}
+use Rattle.reader.specs.Front.{camera_of, rest_rules}
+use Rattle.reader.proofs.rest_ok.Goals as goal
+use Rattle.reader.proofs.rest_ok.Goals.{After-no_camera}
+
+-- what the test of the camera number tells of the file's
+tested : (c : After-no_camera) → let a = c.args in c.no_camera.result ≡ no_camera a.e (camera_of a.e a.f.now)
+tested c = c.no_camera.ensures ∙ ap (no_camera c.args.e) c.camera_in-camera.ensures
+
+pub returns-then-no_camera : goal.returns-then-no_camera
+unfolding rest_rules
+returns-then-no_camera c = sym (simp (sym (tested (goal.at.returns-then-no_camera c).After-no_camera) ∙ c.if-no_camera.true))
+
+pub returns : goal.returns
+unfolding rest_rules
+returns c = c.zeros_ok.ensures ∙ sym (simp (sym (tested (goal.at.returns c).After-no_camera) ∙ c.if-no_camera.false))
