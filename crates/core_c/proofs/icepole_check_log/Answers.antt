@@ -1,0 +1,21 @@
+-- `core_c::icepole_check_log` meets its contract: the three numbers of each verdict.
+-- Assumes nothing.
+use mathlib.Core.Path.{sym, ap, ◌∙◌}
+use borrow.Author.Rules.{rules}
+use Rattle.core_c.specs.Calls.{call_refusal, call_agrees, call_round}
+use Rattle.core_c.proofs.icepole_check_log.Goals as goal
+
+pub returns-in-Agrees : goal.returns-in-Agrees
+returns-in-Agrees c =
+    let e = sym c.v-1.given.1 ∙ c.check_log-v.ensures in
+    (ap call_refusal e, ap call_agrees e, ap call_round e)
+
+pub returns-in-Differs : goal.returns-in-Differs
+returns-in-Differs c =
+    let e = sym c.v-in-Differs-1.given.1 ∙ c.check_log-v.ensures in
+    (ap call_refusal e, ap call_agrees e, ap call_round e)
+
+pub returns-in-Refused : goal.returns-in-Refused
+returns-in-Refused c =
+    let e = sym c.v-in-Refused-1.given.1 ∙ c.check_log-v.ensures in
+    (ap call_refusal e, ap call_agrees e, ap call_round e)
