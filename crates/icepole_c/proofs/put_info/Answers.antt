@@ -19,7 +19,7 @@ returns-then-number-ne0 c = (refl, sym (simp (ne_eqb _ 0 c.if-number-ne0.true)))
 
 pub slice_bounds-put_bytes-end : goal.slice_bounds-put_bytes-end
 slice_bounds-put_bytes-end c =
-    omega (arith, sized c, c.requires)
+    omega (arith, sized (goal.at.slice_bounds-put_bytes-end c).Start, c.requires)
 
 pub put_bytes-requires : goal.put_bytes-requires
 put_bytes-requires c =
@@ -31,5 +31,5 @@ pub returns : goal.returns
 returns c =
     let z = c.if-number-ne0.false in (
       sym z,
-      told c.args.r c.args.n c.args.info.now (sized c) c.requires.0 c.requires.1 z _ _ c.store_u64.ensures.1 c.put_bytes.ensures.1,
+      told c.args.r c.args.n c.args.info.now (sized (goal.at.returns c).Start) c.requires.0 c.requires.1 z _ _ c.store_u64.ensures.1 c.put_bytes.ensures.1,
     )

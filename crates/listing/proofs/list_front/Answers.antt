@@ -20,12 +20,12 @@ slice_bounds-text-end c =
 pub slice_bounds-put_bytes-end : goal.slice_bounds-put_bytes-end
 slice_bounds-put_bytes-end c =
     let h = listing-length c.args.f.now in
-    sym (length-take-le c.put_listing-count.result c.put_listing-count.new.out.0 (omega (arith, h, c.put_listing-count.ensures.0, c.put_listing-count.auto)))
+    sym (length-take-le c.put_listing-count.result c.put_listing-count.new.out (omega (arith, h, c.put_listing-count.ensures.0, c.put_listing-count.auto)))
 
 pub put_bytes-requires : goal.put_bytes-requires
 put_bytes-requires c =
     let h = listing-length c.args.f.now in
-    let l = length-take-le c.put_listing-count.result c.put_listing-count.new.out.0 (omega (arith, h, c.put_listing-count.ensures.0, c.put_listing-count.auto)) in
+    let l = length-take-le c.put_listing-count.result c.put_listing-count.new.out (omega (arith, h, c.put_listing-count.ensures.0, c.put_listing-count.auto)) in
     omega (arith, l, c.if-out-count)
 
 pub returns : goal.returns

@@ -9,59 +9,32 @@ use Rattle.plain_text.specs.Text.{ascii}
 use Rattle.plain_text.proofs.Puts.{field-length}
 use Rattle.listing.proofs.Puts.{head-put}
 use Rattle.listing.proofs.put_head.Goals as goal
-use Rattle.listing.proofs.put_head.Goals.{After-put_field-i, After-put_field-j, After-put_field-k, After-put_field-l}
-
--- back to the start from behind each field
-abbrev start₁ : After-put_field-i → Start
-start₁ c = c.before.before.before.before
-
-abbrev start₂ : After-put_field-j → Start
-start₂ c = start₁ c.before.before.before.before.before
-
-abbrev start₃ : After-put_field-k → Start
-start₃ c = start₂ c.before.before.before.before.before
-
-abbrev start₄ : After-put_field-l → Start
-start₄ c = start₃ c.before.before.before.before.before
-
--- behind a field: the next one stands at most n bytes on, in an output that is long enough
-abbrev At : ℕ → ℕ → Bytes → Type 0
-At n i out = (i ≤ n) × (109 ≤ length out)
-
-one : (c : After-put_field-i) → At 26 c.put_field-i.result c.put_field-i.new.out
-one c =
-    let l = field-length (ascii "burst ") (start₁ c).args.burst_number in
-    (omega (arith, l, c.put_field-i.ensures.0), omega (arith, c.put_field-i.auto.out, (start₁ c).requires))
-
-two : (c : After-put_field-j) → At 53 c.put_field-j.result c.put_field-j.new.out
-two c =
-    let f = one c.before.before.before.before.before in
-    let l = field-length (ascii "\ntaken ") (start₂ c).args.taken in
-    (omega (arith, f, l, c.put_field-j.ensures.0), omega (arith, f, c.put_field-j.auto.out))
-
-three : (c : After-put_field-k) → At 79 c.put_field-k.result c.put_field-k.new.out
-three c =
-    let f = two c.before.before.before.before.before in
-    let l = field-length (ascii " kept ") (start₃ c).args.kept in
-    (omega (arith, f, l, c.put_field-k.ensures.0), omega (arith, f, c.put_field-k.auto.out))
-
-four : (c : After-put_field-l) → At 108 c.put_field-l.result c.put_field-l.new.out
-four c =
-    let f = three c.before.before.before.before.before in
-    let l = field-length (ascii " dropped ") (start₄ c).args.dropped in
-    (omega (arith, f, l, c.put_field-l.ensures.0), omega (arith, f, c.put_field-l.auto.out))
 
 pub put_field-j-requires : goal.put_field-j-requires
-put_field-j-requires c = let f = one (goal.at.put_field-j-requires c).After-put_field-i in omega (arith, f)
-
-pub put_field-i-requires : goal.put_field-i-requires
-put_field-i-requires c = let f = two (goal.at.put_field-i-requires c).After-put_field-j in omega (arith, f)
+put_field-j-requires c =
+    let li = field-length (ascii "burst ") c.args.burst_number in
+    omega (arith, li, c.put_field-i.ensures.0, c.put_field-i.auto.out, c.requires)
 
 pub put_field-k-requires : goal.put_field-k-requires
-put_field-k-requires c = let f = three (goal.at.put_field-k-requires c).After-put_field-k in omega (arith, f)
+put_field-k-requires c =
+    let li = field-length (ascii "burst ") c.args.burst_number in
+    let lj = field-length (ascii "\ntaken ") c.args.taken in
+    omega (arith, li, c.put_field-i.ensures.0, c.put_field-i.auto.out, lj, c.put_field-j.ensures.0, c.put_field-j.auto.out, c.requires)
+
+pub put_field-l-requires : goal.put_field-l-requires
+put_field-l-requires c =
+    let li = field-length (ascii "burst ") c.args.burst_number in
+    let lj = field-length (ascii "\ntaken ") c.args.taken in
+    let lk = field-length (ascii " kept ") c.args.kept in
+    omega (arith, li, c.put_field-i.ensures.0, c.put_field-i.auto.out, lj, c.put_field-j.ensures.0, c.put_field-j.auto.out, lk, c.put_field-k.ensures.0, c.put_field-k.auto.out, c.requires)
 
 pub put_bytes-requires : goal.put_bytes-requires
-put_bytes-requires c = let f = four (goal.at.put_bytes-requires c).After-put_field-l in omega (arith, f)
+put_bytes-requires c =
+    let li = field-length (ascii "burst ") c.args.burst_number in
+    let lj = field-length (ascii "\ntaken ") c.args.taken in
+    let lk = field-length (ascii " kept ") c.args.kept in
+    let ll = field-length (ascii " dropped ") c.args.dropped in
+    omega (arith, li, c.put_field-i.ensures.0, c.put_field-i.auto.out, lj, c.put_field-j.ensures.0, c.put_field-j.auto.out, lk, c.put_field-k.ensures.0, c.put_field-k.auto.out, ll, c.put_field-l.ensures.0, c.put_field-l.auto.out, c.requires)
 
 pub returns : goal.returns
 returns c =

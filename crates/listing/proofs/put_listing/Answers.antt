@@ -11,8 +11,8 @@ use Rattle.reader.proofs.Rules.{front, reads}
 use Rattle.listing.proofs.Lines.{broken-listing, front-listing, front-put, head-length, long-listing}
 use Rattle.listing.proofs.put_listing.Goals as goal
 
-pub shape_of-out-then-f-gt-MAX_LISTED : goal.shape_of-out-then-f-gt-MAX_LISTED
-shape_of-out-then-f-gt-MAX_LISTED c =
+pub returns-then-f-gt-MAX_LISTED : goal.returns-then-f-gt-MAX_LISTED
+returns-then-f-gt-MAX_LISTED c =
     let a = c.args in
     let e = long-listing a.f.now (omega (arith, c.if-f-gt-MAX_LISTED)) in
     (c.put_bytes.ensures.0 ∙ zero-add _ ∙ ap length e, c.put_bytes.ensures.1 ∙ ap (put_bytes a.out.now 0) e)

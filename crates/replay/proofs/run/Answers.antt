@@ -17,7 +17,7 @@ loop-i-init c = (omega arith, omega arith, refl, refl, all_left _ _ _ _ _)
 
 pub shape_of-buffer-then-not-s : goal.shape_of-buffer-then-not-s
 shape_of-buffer-then-not-s c =
-    c.perform-s.auto.script.1.1.0 ∙ c.loop-i.invariant.3
+    c.perform-s.auto.buffer ∙ c.loop-i.invariant.3
 
 pub shape_of-answers-then-not-s : goal.shape_of-answers-then-not-s
 shape_of-answers-then-not-s c = c.loop-i.invariant.2
@@ -26,7 +26,7 @@ pub returns-then-not-s : goal.returns-then-not-s
 returns-then-not-s c =
     let l = c.loop-i in
     let a = c.args in
-    let f = stops l.r l.buffer l.position a.script.now c.perform-s.result c.perform-s.ensures.0 c.if-not-s.true in
+    let f = stops l.r l.buffer l.position a.script.now c.perform-s.result c.perform-s.ensures.0 (not-true _ c.if-not-s.true) in
     let e : a.room - l.i ≡ suc (a.room - l.i - 1) = omega arith in
     let w = none_left a.script.now a.room _ _ _ l.r l.buffer l.answers l.position l.i
     (ap (λ (n : ℕ). script_calls n (drop l.position a.script.now)) e ∙ left-none (a.room - l.i - 1) l.position a.script.now f)
@@ -49,7 +49,7 @@ loop-i-preserved c =
     let l = c.loop-i in
     let a = c.args in
     let st = c.perform-s.result in
-    let g = goes l.r l.buffer l.position a.script.now c.perform-s.result c.perform-s.ensures.0 c.if-not-s.false in
+    let g = goes l.r l.buffer l.position a.script.now c.perform-s.result c.perform-s.ensures.0 (not-false _ c.if-not-s.false) in
     let x = g.0 in
     let m = first_fits (drop l.position a.script.now) x g.1 in
     let d = length-drop l.position a.script.now in
@@ -59,7 +59,7 @@ loop-i-preserved c =
       omega (arith, c.loop-i-test),
       omega (arith, en, m, d, l),
       c.store_le.auto.out ∙ c.store_le-next.auto.out ∙ l.invariant.2,
-      c.perform-s.auto.script.1.1.0 ∙ l.invariant.3,
+      c.perform-s.auto.buffer ∙ l.invariant.3,
       turned a.script.now a.room _ _ _ l.r l.buffer l.answers l.position l.i x st
           (ap (λ (n : ℕ). script_calls n (drop l.position a.script.now)) e ∙ left-some (a.room - (l.i + 1)) l.position a.script.now x g.1)
           (ap (λ (n : ℕ). script_rest n (drop l.position a.script.now)) e ∙ rest_some (a.room - (l.i + 1)) l.position a.script.now x g.1) is _ _ _ _
