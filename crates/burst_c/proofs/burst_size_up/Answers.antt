@@ -3,13 +3,9 @@
 use mathlib.Core.Path.{ap}
 use borrow.Author.Rules.{rules}
 use Rattle.sizing.specs.declared.Size.{Size}
-use Rattle.burst_c.proofs.burst_size_up.Statement.{statement}
-use Rattle.burst_c.proofs.burst_size_up.Tie as tie
+use Rattle.burst_c.proofs.burst_size_up.Goals as goal
 
-returns : tie.Need-returns
+pub returns : goal.returns
 returns c =
-    let e = c.size-up.ensures in
+    let e = c.size_up-s.ensures in
     (ap (λ (s : Size). s.refusal) e, ap (λ (s : Size). s.file_length) e, ap (λ (s : Size). s.p12) e, ap (λ (s : Size). s.p6) e)
-
-pub burst-size-up-spec : {M : Type 1} → statement M
-burst-size-up-spec = tie.close (tie.spec (λ c κs. search rules) returns)
