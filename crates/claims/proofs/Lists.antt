@@ -101,10 +101,10 @@ module _ (ed : Edition) where
     -- a closed burst answers no close with 0
     none-answered : (p : Plain) (cs : List Call) → p.closed ≡ true → CloseAnswered cs (answers_of ed n p cs) → ⊥
     none-answered p [] h a = a
-    none-answered p (keep_shot s q ∷ cs) h a = none-answered _ cs (shut-after p (keep_shot s q) h) a
-    none-answered p (drop_shot way ∷ cs) h a = none-answered _ cs (shut-after p (drop_shot way) h) a
+    none-answered p (keep_shot s q ∷ cs) h a = none-answered (after_call ed n p (keep_shot s q)) cs (shut-after p (keep_shot s q) h) a
+    none-answered p (drop_shot way ∷ cs) h a = none-answered (after_call ed n p (drop_shot way)) cs (shut-after p (drop_shot way) h) a
     none-answered p (close_burst ∷ cs) h (inl a) = let e : ◌≡◌ {A = ℕ} 8 0 = sym (closed-8 ed n p h close_burst) ∙ sym (answer-number p close_burst) ∙ a in omega arith
-    none-answered p (close_burst ∷ cs) h (inr a) = none-answered _ cs (shut-after p close_burst h) a
+    none-answered p (close_burst ∷ cs) h (inr a) = none-answered (after_call ed n p close_burst) cs (shut-after p close_burst h) a
 
     keep-open : (p : Plain) (s q : Bytes) → p.closed ≡ false → (after_call ed n p (keep_shot s q)).closed ≡ false
     unfolding accepted
@@ -123,22 +123,22 @@ module _ (ed : Edition) where
 
     answered-closed : (p : Plain) (cs : List Call) → p.closed ≡ false → CloseAnswered cs (answers_of ed n p cs) → (after_calls ed n p cs).closed ≡ true
     answered-closed p [] h a = absurd a
-    answered-closed p (keep_shot s q ∷ cs) h a = answered-closed _ cs (keep-open p s q h) a
-    answered-closed p (drop_shot way ∷ cs) h a = answered-closed _ cs (drop-open p way h) a
+    answered-closed p (keep_shot s q ∷ cs) h a = answered-closed (after_call ed n p (keep_shot s q)) cs (keep-open p s q h) a
+    answered-closed p (drop_shot way ∷ cs) h a = answered-closed (after_call ed n p (drop_shot way)) cs (drop-open p way h) a
     answered-closed p (close_burst ∷ cs) h (inl a) = closed_after _ cs (close-accepted p (sym (answer-number p close_burst) ∙ a))
     answered-closed p (close_burst ∷ cs) h (inr a) =
         zero_or_not (number_of ed n p close_burst) _
         (λ e. closed_after _ cs (close-accepted p e))
-        (λ e. answered-closed _ cs (ap (λ (q : Plain). q.closed) (close-refused p e) ∙ h) a)
+        (λ e. answered-closed (after_call ed n p close_burst) cs (ap (λ (q : Plain). q.closed) (close-refused p e) ∙ h) a)
 
     closed-answered : (p : Plain) (cs : List Call) → p.closed ≡ false → (after_calls ed n p cs).closed ≡ true → CloseAnswered cs (answers_of ed n p cs)
     closed-answered p [] h c = clash _ c h
-    closed-answered p (keep_shot s q ∷ cs) h c = closed-answered _ cs (keep-open p s q h) c
-    closed-answered p (drop_shot way ∷ cs) h c = closed-answered _ cs (drop-open p way h) c
+    closed-answered p (keep_shot s q ∷ cs) h c = closed-answered (after_call ed n p (keep_shot s q)) cs (keep-open p s q h) c
+    closed-answered p (drop_shot way ∷ cs) h c = closed-answered (after_call ed n p (drop_shot way)) cs (drop-open p way h) c
     closed-answered p (close_burst ∷ cs) h c =
         zero_or_not (number_of ed n p close_burst) _
         (λ e. inl (answer-number p close_burst ∙ e))
-        (λ e. inr (closed-answered _ cs (ap (λ (q : Plain). q.closed) (close-refused p e) ∙ h) c))
+        (λ e. inr (closed-answered (after_call ed n p close_burst) cs (ap (λ (q : Plain). q.closed) (close-refused p e) ∙ h) c))
 
   module _ (l : CallList) where
     open-begun : begin_number_of ed l ≡ 0 → (begun ed l).closed ≡ false

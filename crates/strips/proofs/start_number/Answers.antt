@@ -16,6 +16,7 @@ overflow_add-room c = elim c.if-out-room.branch [ then-out-room w ↦ omega arit
 pub returns : goal.returns
 returns c =
     c.seal_number.ensures
-    ∙ elim c.if-out-room.branch
-      [ then-out-room w ↦ start-all (sizes Icepole128) _ _ _ _ _ _ w.room-is
-      | else-out-room w ↦ start-cut (sizes Icepole128) _ _ _ _ _ _ w.if-out-room.false w.room-is ]
+    ∙ elim c.if-out-room.branch [
+      | then-out-room w ↦ start-all (sizes Icepole128) _ _ _ _ _ _ w.room-is
+      | else-out-room w ↦ start-cut (sizes Icepole128) _ _ _ _ _ _ w.if-out-room.false w.room-is
+    ]
