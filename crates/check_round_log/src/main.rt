@@ -6,10 +6,10 @@ ghost use Rattle.bytes_le.specs.Bytes.{put_bytes};
 ghost use Rattle.plain_text.specs.Text.{max_digits, field};
 ghost use Rattle.check_round_log.specs.Line.{line, line_room};
 
-use libc::{STDIN_FILENO, STDOUT_FILENO};
 use permutation::MAX_ROUNDS;
 use round_log::Verdict;
 use state_bytes::STATE_BYTES;
+use std::io;
 
 // Bytes of the longest log.
 const LONGEST: usize = STATE_BYTES * (1 + MAX_ROUNDS);
@@ -39,12 +39,12 @@ fn put_line(out: &mut [u8], v: Verdict) -> usize
     }
 }
 
-fn main() {
+fn main(rt: HostRuntime) -> io::Result<()> {
     // One byte more than the longest log has, to see that an input is longer.
     let mut log = [0u8; LONGEST + 1];
-    let n = io::read_full(STDIN_FILENO, &mut log);
+    let n = input::read_full(&mut rt.reader(), &mut log)?;
     let v = round_log::check_log(&log[..n]);
     let mut text = [0u8; LINE_ROOM];
     let count = put_line(&mut text, v);
-    io::write_all(STDOUT_FILENO, &text[..count]);
+    rt.write_all(&text[..count])
 }

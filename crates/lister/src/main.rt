@@ -1,15 +1,15 @@
 // The lister (01, "Afterwards"; 02, N1): prints the front of the file on standard input. It needs no key.
 #![tactic(auto)]
 
-use libc::{STDIN_FILENO, STDOUT_FILENO};
 use listing::{MAX_LISTED, TEXT_ROOM};
+use std::io;
 
-fn main() {
+fn main(rt: HostRuntime) -> io::Result<()> {
     // One byte more than is listed, to see that a file is too long.
     let mut file = [0u8; MAX_LISTED + 1];
-    let n = io::read_full(STDIN_FILENO, &mut file);
+    let n = input::read_full(&mut rt.reader(), &mut file)?;
     let mut text = [0u8; TEXT_ROOM];
     let r = listing::list_front(&file[..n], &mut text);
     let count = r.length;
-    io::write_all(STDOUT_FILENO, &text[..count]);
+    rt.write_all(&text[..count])
 }

@@ -1,7 +1,7 @@
 // Prints P6 and P12 of fourteen states. The stored output was written by the Rust reference (tests/reference, permutation_vectors).
 #![tactic(auto)]
 
-use libc::STDOUT_FILENO;
+use std::io;
 
 type State = [[u64; 5]; 4];
 
@@ -58,44 +58,34 @@ fn state_of(k: u64) -> State {
 }
 
 // Four words and a line end.
-fn print_row(a: u64, b: u64, c: u64, d: u64) {
-    io::print_hex(STDOUT_FILENO, a, 16);
-    io::write_all(STDOUT_FILENO, b" ");
-    io::print_hex(STDOUT_FILENO, b, 16);
-    io::write_all(STDOUT_FILENO, b" ");
-    io::print_hex(STDOUT_FILENO, c, 16);
-    io::write_all(STDOUT_FILENO, b" ");
-    io::print_hex(STDOUT_FILENO, d, 16);
-    io::write_all(STDOUT_FILENO, b"\n");
+fn print_row(rt: &impl Print, a: u64, b: u64, c: u64, d: u64) -> io::Result<()> {
+    println!(rt; "{a:016x} {b:016x} {c:016x} {d:016x}")
 }
 
-fn print_heading(k: u64, rounds: u64) {
-    io::write_all(STDOUT_FILENO, b"state ");
-    io::print_decimal(STDOUT_FILENO, k);
-    io::write_all(STDOUT_FILENO, b" rounds ");
-    io::print_decimal(STDOUT_FILENO, rounds);
-    io::write_all(STDOUT_FILENO, b"\n");
+fn print_heading(rt: &impl Print, k: u64, rounds: u64) -> io::Result<()> {
+    println!(rt; "state {k} rounds {rounds}")
 }
 
 // The words in word order, a line for each y.
-fn print_state(s: State) {
+fn print_state(rt: &impl Print, s: State) -> io::Result<()> {
     let a = s[0];
     let b = s[1];
     let c = s[2];
     let d = s[3];
-    print_row(a[0], b[0], c[0], d[0]);
-    print_row(a[1], b[1], c[1], d[1]);
-    print_row(a[2], b[2], c[2], d[2]);
-    print_row(a[3], b[3], c[3], d[3]);
-    print_row(a[4], b[4], c[4], d[4]);
+    print_row(rt, a[0], b[0], c[0], d[0])?;
+    print_row(rt, a[1], b[1], c[1], d[1])?;
+    print_row(rt, a[2], b[2], c[2], d[2])?;
+    print_row(rt, a[3], b[3], c[3], d[3])?;
+    print_row(rt, a[4], b[4], c[4], d[4])
 }
 
-fn main() {
+fn main(rt: HostRuntime) -> io::Result<()> {
     for k in 0..14 {
         let s = state_of(k);
-        print_heading(k, 6);
-        print_state(permutation::p6(s));
-        print_heading(k, 12);
-        print_state(permutation::p12(s));
+        print_heading(&rt, k, 6)?;
+        print_state(&rt, permutation::p6(s))?;
+        print_heading(&rt, k, 12)?;
+        print_state(&rt, permutation::p12(s))?;
     }
+    Ok(())
 }

@@ -6,7 +6,7 @@ ghost use Rattle.std.specs.Prelude.{◌≡◌, ◌<◌};
 ghost use Rattle.print_constants.specs.Text.{hex_line, number_on};
 ghost use Rattle.print_constants.specs.Text.{glyph as Text·glyph, text as Text·text};
 
-use libc::STDOUT_FILENO;
+use std::io;
 
 type State = [[u64; 5]; 4];
 
@@ -53,13 +53,14 @@ fn text() -> [Line; 32]
     lines
 }
 
-fn print_line(line: Line) {
-    io::write_all(STDOUT_FILENO, &line);
+fn print_line(rt: &impl Print, line: Line) -> io::Result<()> {
+    rt.write_all(&line)
 }
 
-fn main() {
+fn main(rt: HostRuntime) -> io::Result<()> {
     let lines = text();
     for k in 0..32 {
-        print_line(lines[k]);
+        print_line(&rt, lines[k])?;
     }
+    Ok(())
 }

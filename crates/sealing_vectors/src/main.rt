@@ -4,7 +4,7 @@
 
 ghost use Rattle.std.specs.Prelude.{◌≡◌, ◌+◌, ◌≤◌, ◌<◌, length};
 
-use libc::STDOUT_FILENO;
+use std::io;
 
 // Everything is cut from one run of bytes, at these places.
 const KEY: usize = 0;
@@ -149,60 +149,54 @@ fn opens(k: usize, m: usize, s: usize, a: usize, b: &[u8], sealed: &[u8]) -> boo
 }
 
 // Two hex digits for each byte.
-fn print_bytes(b: &[u8]) {
+fn print_bytes(rt: &impl Print, b: &[u8]) -> io::Result<()> {
     for i in 0..b.len() {
-        io::print_hex(STDOUT_FILENO, wide(b[i]), 2);
+        let byte = wide(b[i]);
+        print!(rt; "{byte:02x}")?;
     }
+    Ok(())
 }
 
 fn wide(x: u8) -> u64 {
     x as u64
 }
 
-fn print_heading(k: usize, m: usize, s: usize, a: usize)
+fn print_heading(rt: &impl Print, k: usize, m: usize, s: usize, a: usize) -> io::Result<()>
     requires { s ≤ a }
 {
-    if k == 0 {
-        io::write_all(STDOUT_FILENO, b"128");
-    } else {
-        if k == 1 {
-            io::write_all(STDOUT_FILENO, b"128a");
-        } else {
-            io::write_all(STDOUT_FILENO, b"256a");
-        }
-    }
-    io::write_all(STDOUT_FILENO, b" message ");
-    io::print_decimal(STDOUT_FILENO, m as u64);
-    io::write_all(STDOUT_FILENO, b" associated ");
-    io::print_decimal(STDOUT_FILENO, s as u64);
-    io::write_all(STDOUT_FILENO, b" + ");
-    io::print_decimal(STDOUT_FILENO, (a - s) as u64);
-    io::write_all(STDOUT_FILENO, b": ");
+    let name = match k {
+        0 => "128",
+        1 => "128a",
+        _ => "256a",
+    };
+    let t = a - s;
+    print!(rt; "{name} message {m} associated {s} + {t}: ")
 }
 
 // One line: the lengths, the sealed message, and whether it was opened.
-fn print_case(k: usize, m: usize, s: usize, a: usize)
+fn print_case(rt: &impl Print, k: usize, m: usize, s: usize, a: usize) -> io::Result<()>
     requires { (m ≤ 256) × (s ≤ a) × (a ≤ 256) }
 {
     let b = run();
     let mut out = [0u8; 288];
     let n = secret_length(k) + m + 16;
     let refusal = seal(k, m, s, a, &b, &mut out);
-    print_heading(k, m, s, a);
-    print_bytes(&out[0..n]);
+    print_heading(rt, k, m, s, a)?;
+    print_bytes(rt, &out[0..n])?;
     if refusal == 0 && opens(k, m, s, a, &b, &out[0..n]) {
-        io::write_all(STDOUT_FILENO, b" opened\n");
+        rt.println(" opened")
     } else {
-        io::write_all(STDOUT_FILENO, b" differs\n");
+        rt.println(" differs")
     }
 }
 
 // Case n is variant number n / 100, edge number n / 10 % 10 of message and n % 10 of associated data, whose parts go through the four ways.
-fn main() {
+fn main(rt: HostRuntime) -> io::Result<()> {
     for n in 0..300 {
         let i = n / 10 % 10;
         let j = n % 10;
         let a = edge(j);
-        print_case(n / 100, edge(i), first_part(a, (i + j) % 4), a);
+        print_case(&rt, n / 100, edge(i), first_part(a, (i + j) % 4), a)?;
     }
+    Ok(())
 }
