@@ -26,8 +26,7 @@ const FETCH_INFO: usize = COUNT_WIDTH + OFFSET_WIDTH + MARK_BYTES;
 // The largest place that 16 bits hold. No file has so many pictures.
 const LAST_PLACE: usize = 65535;
 
-#[unsafe(no_mangle)]
-pub extern "C" fn burst_replay(
+pub fn burst_replay(
     key: &[u8],
     burst_number: u64,
     camera: u32,
@@ -72,8 +71,7 @@ fn put_checked(c: Checked, info: &mut [u8])
     bytes_le::store_le(info, m, CAMERA_WIDTH, c.camera as u64);
 }
 
-#[unsafe(no_mangle)]
-pub extern "C" fn burst_check(key: &[u8], file: &[u8], mark: &mut u32, info: &mut [u8]) -> u32
+pub fn burst_check(key: &[u8], file: &[u8], mark: &mut u32, info: &mut [u8]) -> u32
     ensures { (result ≡ check_call_refusal key.now file.now info.old) ×
         (mark.new ≡ check_mark key.now file.now) ×
         (info.new ≡ check_call_info key.now file.now info.old) }
@@ -111,8 +109,7 @@ fn put_fetched(r: Fetched, info: &mut [u8])
     bytes_le::put_bytes(info, j, &stamp);
 }
 
-#[unsafe(no_mangle)]
-pub extern "C" fn burst_fetch(
+pub fn burst_fetch(
     key: &[u8],
     file: &[u8],
     place: usize,
@@ -143,8 +140,7 @@ pub extern "C" fn burst_fetch(
     0
 }
 
-#[unsafe(no_mangle)]
-pub extern "C" fn burst_record(
+pub fn burst_record(
     key: &[u8],
     file: &[u8],
     place: usize,
@@ -170,8 +166,7 @@ pub extern "C" fn burst_record(
     0
 }
 
-#[unsafe(no_mangle)]
-pub extern "C" fn burst_list(file: &[u8], text: &mut [u8], size: &mut u32) -> u32
+pub fn burst_list(file: &[u8], text: &mut [u8], size: &mut u32) -> u32
     ensures { (result ≡ list_refusal file.now text.old) ×
         (text.new ≡ list_output file.now text.old) ×
         (size.new ≡ (list_answer file.now text.old).length) }
@@ -181,8 +176,7 @@ pub extern "C" fn burst_list(file: &[u8], text: &mut [u8], size: &mut u32) -> u3
     r.refusal
 }
 
-#[unsafe(no_mangle)]
-pub extern "C" fn burst_size_up(
+pub fn burst_size_up(
     lengths: &[u64],
     file_length: &mut u64,
     p12: &mut u64,
@@ -200,8 +194,7 @@ pub extern "C" fn burst_size_up(
     s.refusal
 }
 
-#[unsafe(no_mangle)]
-pub extern "C" fn burst_card_line(
+pub fn burst_card_line(
     card: u64,
     shots: u64,
     picture: u64,

@@ -11,8 +11,7 @@ use round_log::Verdict;
 use rounds_back::{Direction, TOO_MANY_ROUNDS};
 use state_bytes::STATE_BYTES;
 
-#[unsafe(no_mangle)]
-pub extern "C" fn icepole_check_log(log: &[u8], agrees: &mut u32, round: &mut u32) -> u32
+pub fn icepole_check_log(log: &[u8], agrees: &mut u32, round: &mut u32) -> u32
     ensures { (result ≡ call_refusal (verdict log.now)) ×
         (agrees.new ≡ call_agrees (verdict log.now)) ×
         (round.new ≡ call_round (verdict log.now)) }
@@ -68,16 +67,14 @@ fn run_rounds(state: &mut [u8], direction: Direction, rounds: u32) -> u32
     0
 }
 
-#[unsafe(no_mangle)]
-pub extern "C" fn icepole_rounds_back(state: &mut [u8], rounds: u32) -> u32
+pub fn icepole_rounds_back(state: &mut [u8], rounds: u32) -> u32
     ensures { (result ≡ rounds_refusal rounds (length state.old)) ×
         (state.new ≡ after_rounds Back rounds state.old) }
 {
     run_rounds(state, Direction::Back, rounds)
 }
 
-#[unsafe(no_mangle)]
-pub extern "C" fn icepole_rounds_forward(state: &mut [u8], rounds: u32) -> u32
+pub fn icepole_rounds_forward(state: &mut [u8], rounds: u32) -> u32
     ensures { (result ≡ rounds_refusal rounds (length state.old)) ×
         (state.new ≡ after_rounds Forward rounds state.old) }
 {

@@ -106,8 +106,7 @@ fn open_in_place_call(
     put_info(r, secret_length, info)
 }
 
-#[unsafe(no_mangle)]
-pub extern "C" fn icepole128_seal(
+pub fn icepole128_seal(
     key: &[u8],
     nonce: &[u8],
     secret: &[u8],
@@ -131,8 +130,7 @@ pub extern "C" fn icepole128_seal(
     )
 }
 
-#[unsafe(no_mangle)]
-pub extern "C" fn icepole128_open(
+pub fn icepole128_open(
     key: &[u8],
     nonce: &[u8],
     first: &[u8],
@@ -156,8 +154,7 @@ pub extern "C" fn icepole128_open(
     )
 }
 
-#[unsafe(no_mangle)]
-pub extern "C" fn icepole128_open_in_place(
+pub fn icepole128_open_in_place(
     key: &[u8],
     nonce: &[u8],
     first: &[u8],
@@ -171,8 +168,7 @@ pub extern "C" fn icepole128_open_in_place(
     open_in_place_call(Variant::Icepole128, key, nonce, first, second, buffer, info)
 }
 
-#[unsafe(no_mangle)]
-pub extern "C" fn icepole128a_seal(
+pub fn icepole128a_seal(
     key: &[u8],
     nonce: &[u8],
     secret: &[u8],
@@ -196,8 +192,7 @@ pub extern "C" fn icepole128a_seal(
     )
 }
 
-#[unsafe(no_mangle)]
-pub extern "C" fn icepole128a_open(
+pub fn icepole128a_open(
     key: &[u8],
     nonce: &[u8],
     first: &[u8],
@@ -221,8 +216,7 @@ pub extern "C" fn icepole128a_open(
     )
 }
 
-#[unsafe(no_mangle)]
-pub extern "C" fn icepole128a_open_in_place(
+pub fn icepole128a_open_in_place(
     key: &[u8],
     nonce: &[u8],
     first: &[u8],
@@ -244,8 +238,7 @@ pub extern "C" fn icepole128a_open_in_place(
     )
 }
 
-#[unsafe(no_mangle)]
-pub extern "C" fn icepole256a_seal(
+pub fn icepole256a_seal(
     key: &[u8],
     nonce: &[u8],
     secret: &[u8],
@@ -269,8 +262,7 @@ pub extern "C" fn icepole256a_seal(
     )
 }
 
-#[unsafe(no_mangle)]
-pub extern "C" fn icepole256a_open(
+pub fn icepole256a_open(
     key: &[u8],
     nonce: &[u8],
     first: &[u8],
@@ -294,8 +286,7 @@ pub extern "C" fn icepole256a_open(
     )
 }
 
-#[unsafe(no_mangle)]
-pub extern "C" fn icepole256a_open_in_place(
+pub fn icepole256a_open_in_place(
     key: &[u8],
     nonce: &[u8],
     first: &[u8],
@@ -359,8 +350,7 @@ fn put_strip_state(s: StripState, b: &mut [u8])
     bytes_le::store_le(b, j, 1, flag_of(s.finished));
 }
 
-#[unsafe(no_mangle)]
-pub extern "C" fn icepole128_start(
+pub fn icepole128_start(
     key: &[u8],
     nonce: &[u8],
     secret: &[u8],
@@ -392,8 +382,7 @@ pub extern "C" fn icepole128_start(
     r.refusal
 }
 
-#[unsafe(no_mangle)]
-pub extern "C" fn icepole128_strip(state: &mut [u8], message: &[u8], out: &mut [u8]) -> u32
+pub fn icepole128_strip(state: &mut [u8], message: &[u8], out: &mut [u8]) -> u32
     ensures { StripContract state.old message.now out.old result state.new out.new }
 {
     if state.len() < STRIP_STATE_LENGTH {
@@ -409,8 +398,7 @@ pub extern "C" fn icepole128_strip(state: &mut [u8], message: &[u8], out: &mut [
     0
 }
 
-#[unsafe(no_mangle)]
-pub extern "C" fn icepole128_end(state: &mut [u8], out: &mut [u8]) -> u32
+pub fn icepole128_end(state: &mut [u8], out: &mut [u8]) -> u32
     ensures { EndContract state.old out.old result state.new out.new }
 {
     if state.len() < STRIP_STATE_LENGTH {
