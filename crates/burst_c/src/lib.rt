@@ -176,12 +176,7 @@ pub fn burst_list(file: &[u8], text: &mut [u8], size: &mut u32) -> u32
     r.refusal
 }
 
-pub fn burst_size_up(
-    lengths: &[u64],
-    file_length: &mut u64,
-    p12: &mut u64,
-    p6: &mut u64,
-) -> u32
+pub fn burst_size_up(lengths: &[u64], file_length: &mut u64, p12: &mut u64, p6: &mut u64) -> u32
     ensures { (result ≡ (size_answer lengths.now).refusal) ×
         (file_length.new ≡ (size_answer lengths.now).file_length) ×
         (p12.new ≡ (size_answer lengths.now).p12) ×
@@ -194,13 +189,7 @@ pub fn burst_size_up(
     s.refusal
 }
 
-pub fn burst_card_line(
-    card: u64,
-    shots: u64,
-    picture: u64,
-    bursts: &mut u64,
-    left: &mut u64,
-) -> u32
+pub fn burst_card_line(card: u64, shots: u64, picture: u64, bursts: &mut u64, left: &mut u64) -> u32
     ensures { (result ≡ (card_answer card shots picture).refusal) ×
         (bursts.new ≡ (card_answer card shots picture).bursts) ×
         (left.new ≡ (card_answer card shots picture).left) }

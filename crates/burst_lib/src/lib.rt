@@ -26,7 +26,16 @@ pub extern "C" fn burst_replay(
         answers.old answers.new buffer.old buffer.new result ×
         (whole.new ≡ cond (whole_script (length answers.old) script.now) 1 0) }
 {
-    burst_c::burst_replay(key, burst_number, camera, site_mark, script, buffer, answers, whole)
+    burst_c::burst_replay(
+        key,
+        burst_number,
+        camera,
+        site_mark,
+        script,
+        buffer,
+        answers,
+        whole,
+    )
 }
 
 #[unsafe(no_mangle)]
