@@ -9,25 +9,30 @@ test:
 	@sh scripts/test.sh
 
 # The folder build/lib, for C: libicepole_c.a, libburst_c.a and libcore_c.a, their headers icepole.h, burst.h and core.h, and icepole.pc, burst.pc and core.pc for
-# pkg-config. It can be moved. The libraries stand in target/staticlib too, where the tests link them.
+# pkg-config. It can be moved.
 lib:
 	@sh scripts/lib.sh
 
 # Prints the starting words of ICEPOLE in word order, then its round constants, as the proved generators make them.
 .PHONY: tables
 tables:
-	@mkdir -p build
 	@echo "proving the generators, which takes a minute or two the first time" >&2
-	@rt check print_constants >build/tables.log 2>&1 || { cat build/tables.log >&2; exit 1; }
-	@target/bin/print_constants
+	@sh scripts/build.sh print_constants >&2
+	@crates/print_constants/out/print_constants
 
 # Leaves the program build/round_log, which judges the round log on its standard input.
 .PHONY: round_log
 round_log:
-	@mkdir -p build
 	@echo "proving the checker, which takes a minute or two the first time" >&2
-	@rt check check_round_log >build/round_log.log 2>&1 || { cat build/round_log.log >&2; exit 1; }
-	@cp target/bin/check_round_log build/round_log
+	@sh scripts/build.sh check_round_log >&2
+	@cp crates/check_round_log/out/check_round_log build/round_log
+
+# Leaves the program build/lister, which lists the burst file on its standard input.
+.PHONY: lister
+lister:
+	@echo "proving the lister, which takes some minutes the first time" >&2
+	@sh scripts/build.sh lister >&2
+	@cp crates/lister/out/lister build/lister
 
 # Times the proved code against C and OpenSSL, counts its instructions, and writes the figures of docs/BENCHMARKS.md and docs/benchmarks.svg.
 bench:

@@ -11,20 +11,21 @@ to='<!-- end of the figures -->'
 marks=$(grep -Fxn -e "$from" -e "$to" $page | cut -d: -f2)
 [ "$marks" = "$(printf '%s\n%s' "$from" "$to")" ] || { echo "$page wants its two marks, once each"; exit 1; }
 
-for name in permutation_bench icepole_bench icepole_c burst_c core_c; do
-    rt staticlib $name >build/staticlib.log 2>&1 || { cat build/staticlib.log; exit 1; }
-done
+sh scripts/build.sh permutation_bench icepole_bench
+sh scripts/lib.sh
 c="gcc -std=c11 -Wall -Wextra -Werror -O3"
 $c -c bench/permutation.c -o build/permutation.o
 $c -DPREFIX=plain -c bench/icepole.c -o build/icepole_plain.o
 $c -DPREFIX=shaped -DSHAPED -c bench/icepole.c -o build/icepole_shaped.o
 main="gcc -std=c11 -D_POSIX_C_SOURCE=200809L -Wall -Wextra -Werror -O2"
-lib=target/staticlib
-$main bench/p6.c build/permutation.o $lib/libpermutation_bench.a -o build/p6
-$main bench/sealing.c build/icepole_plain.o build/icepole_shaped.o $lib/libicepole_c.a $lib/libicepole_bench.a -o build/sealing
+lib=build/lib
+permutation=crates/permutation_bench/out/libpermutation_bench.a
+icepole=crates/icepole_bench/out/libicepole_bench.a
+$main bench/p6.c build/permutation.o $permutation -o build/p6
+$main bench/sealing.c build/icepole_plain.o build/icepole_shaped.o $lib/libicepole_c.a $icepole -o build/sealing
 $main bench/in_place.c $lib/libicepole_c.a -o build/in_place
 $main bench/strips.c $lib/libicepole_c.a -o build/strips
-$main bench/round_log.c $lib/libcore_c.a $lib/libpermutation_bench.a -o build/round_log_bench
+$main bench/round_log.c $lib/libcore_c.a $permutation -o build/round_log_bench
 $main bench/rounds_back.c $lib/libcore_c.a -o build/rounds_back_bench
 $main bench/burst.c $lib/libburst_c.a $lib/libicepole_c.a -o build/burst
 

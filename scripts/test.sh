@@ -21,25 +21,34 @@ crates_listed() {
     status=0
     for dir in crates/*/; do
         name=$(basename "$dir")
-        grep -q "^$name:" crates.txt || { echo "crates/$name is not listed in crates.txt"; status=1; }
+        grep -Eq "^$name( staticlib)?:" crates.txt || { echo "crates/$name is not listed in crates.txt"; status=1; }
     done
     return $status
 }
 
-# The last line 'N passed, M failed' of rt ci. A run without one, or whose exit status and line disagree, is a failure.
+# The last line 'N passed, M failed' of rt ci, with perhaps more in brackets. A run without one, or whose exit status and line disagree, is a failure.
 prove() {
     rt ci >build/rt-ci.log 2>&1
     status=$?
     grep -E '^rt: |NOT PROVED|error' build/rt-ci.log | cut -c1-200
     line=$(tail -n 1 build/rt-ci.log)
-    n=$(echo "$line" | sed -n 's/^\([0-9][0-9]*\) passed, \([0-9][0-9]*\) failed$/\1/p')
-    m=$(echo "$line" | sed -n 's/^\([0-9][0-9]*\) passed, \([0-9][0-9]*\) failed$/\2/p')
+    n=$(echo "$line" | sed -n 's/^\([0-9][0-9]*\) passed, \([0-9][0-9]*\) failed\( (.*)\)\{0,1\} *$/\1/p')
+    m=$(echo "$line" | sed -n 's/^\([0-9][0-9]*\) passed, \([0-9][0-9]*\) failed\( (.*)\)\{0,1\} *$/\2/p')
     passed=$((passed + ${n:-0}))
     failed=$((failed + ${m:-0}))
-    if [ -z "$n" ] || { [ "$status" -ne 0 ] && [ "$m" -eq 0 ]; } || [ "$((n + m))" -eq 0 ]; then
+    if [ -z "$n" ] || { [ "$status" -ne 0 ] && [ "$m" -eq 0 ]; } || { [ "$status" -eq 0 ] && [ "$m" -ne 0 ]; } || [ "$((n + m))" -eq 0 ]; then
         echo "FAILED: rt ci (exit status $status): $line"
         failed=$((failed + 1))
     fi
+}
+
+# The line 'rt: ok' of rt ci, which passes edits that cannot be tried: it counts none of them as bad, and as many refused as there are.
+none_bad() {
+    ok=$(grep '^rt: ok' build/rt-ci.log) || { echo "rt ci has no line 'rt: ok'"; return 1; }
+    edits=$(ls crates/*/must-fail/*.edit | wc -l)
+    refused=$(echo "$ok" | sed -n 's/.*must-fail edits: \([0-9][0-9]*\) refused.*/\1/p')
+    ! echo "$ok" | grep -Eq ', [0-9]+ bad' || { echo "$ok" | cut -c1-200; return 1; }
+    [ "${refused:-0}" -eq "$edits" ] || { echo "$edits must-fail edits, of which ${refused:-0} are refused"; return 1; }
 }
 
 # The look at the first error of every must-fail edit, by short logs of both kinds.
@@ -84,7 +93,7 @@ run() {
 c="gcc -std=c11 -Wall -Wextra -Werror -pedantic -g"
 
 library_paths() {
-    printf 'target/staticlib/%s ' "$@"
+    printf 'build/lib/%s ' "$@"
 }
 
 # A C program, its libraries in one word and its arguments: compiled with the headers as a firmware author would, and run under valgrind. The tests' programs have
@@ -170,20 +179,20 @@ counted() {
 
 # Of a 128-byte block in a call.
 block() {
-    gcc -std=c11 -Wall -Wextra -Werror -O2 bench/block.c target/staticlib/libicepole_c.a -o build/block && build/block 32768 || return 1
+    gcc -std=c11 -Wall -Wextra -Werror -O2 bench/block.c build/lib/libicepole_c.a -o build/block && build/block 32768 || return 1
     counted 128 "a block in $1" "$2" 32768 16384 --toggle-collect="$1" build/block
 }
 
 # Of a P6, as make bench counts it.
 p6() {
-    rt staticlib permutation_bench >build/p6.log 2>&1 || { cat build/p6.log; return 1; }
-    gcc -std=c11 -D_POSIX_C_SOURCE=200809L -Wall -Wextra -Werror -O2 bench/p6.c bench/permutation.c target/staticlib/libpermutation_bench.a -o build/p6 || return 1
+    sh scripts/build.sh permutation_bench || return 1
+    gcc -std=c11 -D_POSIX_C_SOURCE=200809L -Wall -Wextra -Werror -O2 bench/p6.c bench/permutation.c crates/permutation_bench/out/libpermutation_bench.a -o build/p6 || return 1
     counted 1000 "a P6" 1820 1001 1 build/p6 proved
 }
 
 # Of the log of a P12, with the library that the step of a P6 has built.
 round_log_counted() {
-    libraries="target/staticlib/libcore_c.a target/staticlib/libpermutation_bench.a"
+    libraries="build/lib/libcore_c.a crates/permutation_bench/out/libpermutation_bench.a"
     gcc -std=c11 -D_POSIX_C_SOURCE=200809L -Wall -Wextra -Werror -O2 bench/round_log.c $libraries -o build/round_log_bench || return 1
     counted 1000 "the log of a P12" 4100 1001 1 build/round_log_bench
 }
@@ -191,13 +200,13 @@ round_log_counted() {
 # Of twelve rounds in a call, back or forward.
 rounds_counted() {
     flags="-std=c11 -D_POSIX_C_SOURCE=200809L -Wall -Wextra -Werror -O2"
-    gcc $flags bench/rounds_back.c target/staticlib/libcore_c.a -o build/rounds_back_bench || return 1
+    gcc $flags bench/rounds_back.c build/lib/libcore_c.a -o build/rounds_back_bench || return 1
     counted 1000 "twelve rounds back" 6200 1001 1 build/rounds_back_bench back && counted 1000 "twelve rounds forward" 3900 1001 1 build/rounds_back_bench forward
 }
 
 # Of a call that sizes up 60 shots of the longest length: a few for each shot, whatever the lengths.
 size_up_counted() {
-    gcc -std=c11 -Wall -Wextra -Werror -O2 -Iinclude bench/size_up.c target/staticlib/libburst_c.a -o build/size_up && build/size_up 1 || return 1
+    gcc -std=c11 -Wall -Wextra -Werror -O2 -Iinclude bench/size_up.c build/lib/libburst_c.a -o build/size_up && build/size_up 1 || return 1
     counted 1000 "sizing up 60 shots" 1500 1001 1 build/size_up
 }
 
@@ -239,7 +248,7 @@ heap_seen() {
 
 # The bytes of stack that a call takes, whatever the length of its message: at most so many.
 stack() {
-    gcc -std=c11 -D_POSIX_C_SOURCE=200809L -Wall -Wextra -Werror -O2 -Wl,-z,now -Iinclude bench/stack.c target/staticlib/libicepole_c.a -o build/stack || return 1
+    gcc -std=c11 -D_POSIX_C_SOURCE=200809L -Wall -Wextra -Werror -O2 -Wl,-z,now -Iinclude bench/stack.c build/lib/libicepole_c.a -o build/stack || return 1
     build/stack "$1"
 }
 
@@ -281,7 +290,7 @@ round_log() {
 
 # The example of a chosen state: the start from which twelve rounds reach zeros is the stored one, and what is no state, or too many rounds, is refused.
 chosen_state() {
-    $c -Iinclude examples/chosen_state.c target/staticlib/libcore_c.a -o build/chosen_state || return 1
+    $c -Iinclude examples/chosen_state.c build/lib/libcore_c.a -o build/chosen_state || return 1
     yes 0000000000000000 | head -n 20 >build/wanted.hex
     build/chosen_state 12 <build/wanted.hex | diff examples/chosen_state.out - || return 1
     build/chosen_state 0 <build/wanted.hex | diff build/wanted.hex - || return 1
@@ -300,13 +309,14 @@ lib() {
 
 mkdir -p build
 step "every crate is listed" crates_listed
-step "rt fmt --check" rt fmt --check
 step "every import is used" sh scripts/unused_imports.sh
 step "and one that is not is seen" unused_imports_tried
 prove
+step "no must-fail edit is bad" none_bad
 step "must-fail edits are refused on a fact" sh scripts/first_errors.sh
 step "and those that are not are seen" first_errors_tried
 step "make lib" lib
+step "the programs that the Rust tests run" sh scripts/build.sh lister check_round_log
 step "the C program of sealing" c_program tests/c_calls/c/roundtrip.c libicepole_c.a
 step "the C program of opening in place" c_program tests/c_calls/c/open_in_place.c libicepole_c.a
 step "the C program of bursts" c_program tests/burst_calls/c/record_and_read.c libburst_c.a
@@ -333,11 +343,11 @@ step "instructions of a P6" p6
 step "instructions of a round log" round_log_counted
 step "instructions of rounds back and forward" rounds_counted
 step "instructions of sizing up" size_up_counted
-step "no division in the libraries of sealing and of the core" no_division none target/staticlib/libicepole_c.a target/staticlib/libcore_c.a
-step "and in that of bursts none but of the card line" no_division burst_card_line target/staticlib/libburst_c.a
+step "no division in the libraries of sealing and of the core" no_division none build/lib/libicepole_c.a build/lib/libcore_c.a
+step "and in that of bursts none but of the card line" no_division burst_card_line build/lib/libburst_c.a
 step "and one that is there is seen" division_seen
 step "and one that may be there passes" division_allowed
-step "memcpy and memset of the C library alone" wanted_names target/staticlib/libicepole_c.a target/staticlib/libburst_c.a target/staticlib/libcore_c.a
+step "memcpy and memset of the C library alone" wanted_names build/lib/libicepole_c.a build/lib/libburst_c.a build/lib/libcore_c.a
 step "and what is more is seen" heap_seen
 step "stack of opening in place" stack 2048
 rust_tests tests

@@ -1,15 +1,17 @@
 #!/bin/sh
 # Says which names of a `use` line stand nowhere else in their file, and fails where there is one: `FILE:LINE: NAME`.
-# Without arguments it looks at every .rt and .antt file of the crates. It reads text, not meaning: an unused name that is also that of
+# Without arguments it looks at every .rt and .antt file of the crates, and not at what rt makes of them. It reads text, not meaning: an unused name that is also that of
 # something else in the file is not seen.
 cd "$(dirname "$0")/.." || exit 1
-[ $# -gt 0 ] || set -- $(find crates -name '*.rt' -o -name '*.antt' | sort)
+[ $# -gt 0 ] || set -- $(find crates -name out -prune -o \( -name '*.rt' -o -name '*.antt' \) -print | sort)
 awk '
 # The names that an import brings, each with the line that it stands on.
 function imported(list, line,    parts, n, i, name) {
     n = split(list, parts, /, */)
     for (i = 1; i <= n; i++) {
         name = parts[i]
+        gsub(/^[ \t]+|[ \t]+$/, "", name)
+        if (name == "") continue
         sub(/^.* as /, "", name)
         gsub(/«|»/, "", name)
         names[++count] = name
@@ -19,8 +21,8 @@ function imported(list, line,    parts, n, i, name) {
 
 # What is looked for: of an operator its first word, of anything else its name.
 function word(name,    parts, n, i) {
-    if (name !~ /^_|_$/) return name
-    n = split(name, parts, "_")
+    if (name !~ /◌/) return name
+    n = split(name, parts, "◌")
     for (i = 1; i <= n; i++) if (parts[i] != "") return parts[i]
     return name
 }
@@ -52,13 +54,15 @@ function finish(    i) {
     split("", found)
 }
 
-FNR == 1 { finish(); file = FILENAME; rattle = file ~ /\.rt(\.txt)?$/ }
-/^[ \t]*(ghost )?(pub )?use / {
-    line = $0
+FNR == 1 { finish(); within = ""; file = FILENAME; rattle = file ~ /\.rt(\.txt)?$/ }
+within != "" { within = within " " $0; if ($0 !~ /\}/) next }
+within != "" || /^[ \t]*(ghost )?(pub )?use / {
+    if (within != "") { line = within; within = "" }
+    else { line = $0; first = FNR; if (line ~ /\{/ && line !~ /\}/) { within = line; next } }
     sub(/;[ \t]*$/, "", line)
-    if (line ~ /\{/) { sub(/^[^{]*\{/, "", line); sub(/\}.*$/, "", line); imported(line, FNR) }
-    else if (line ~ / as /) imported(line, FNR)
-    else if (rattle) { sub(/^.*::/, "", line); imported(line, FNR) }
+    if (line ~ /\{/) { sub(/^[^{]*\{/, "", line); sub(/\}.*$/, "", line); imported(line, first) }
+    else if (line ~ / as /) imported(line, first)
+    else if (rattle) { sub(/^.*::/, "", line); imported(line, first) }
     next
 }
 { text = $0; if (rattle) sub(/\/\/.*$/, "", text); else sub(/(^|[ \t])--.*$/, "", text); seen(text) }

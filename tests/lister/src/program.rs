@@ -6,8 +6,8 @@ use std::process::{Child, ChildStdin, Command, Stdio};
 use std::thread::sleep;
 use std::time::{Duration, Instant};
 
-/// The folder of the programs.
-const FOLDER: &str = concat!(env!("CARGO_MANIFEST_DIR"), "/../../target/bin");
+/// The folder of the crates.
+const FOLDER: &str = concat!(env!("CARGO_MANIFEST_DIR"), "/../../crates");
 
 /// A program should end long before this.
 const LONGEST: Duration = Duration::from_secs(20);
@@ -19,9 +19,9 @@ impl Program {
     /// Starts the program with this standard input.
     fn start(&self, input: Stdio) -> Child {
         let name = self.0;
-        let path = Path::new(FOLDER).join(name);
+        let path = Path::new(FOLDER).join(name).join("out").join(name);
         if !path.is_file() {
-            panic!("target/bin/{name} is not there: run `rt check {name}` first");
+            panic!("crates/{name}/out/{name} is not there: run `sh scripts/build.sh {name}` first");
         }
         let mut command = Command::new(path);
         command.stdin(input).stdout(Stdio::piped());
