@@ -5,6 +5,8 @@ ghost use Rattle.std.specs.Prelude.{◌++◌};
 ghost use Rattle.icepole_c.specs.Calls.{SealContract, OpenContract, InPlaceContract};
 ghost use Rattle.icepole_c.specs.Strips.{StartContract, StripContract, EndContract};
 
+use icepole::Variant;
+
 #[unsafe(no_mangle)]
 pub extern "C" fn icepole128_seal(
     key: &[u8],
