@@ -9,7 +9,6 @@ use borrow.Author.Tests.{le-leb, leb-true, ne_eqb}
 use lib.Dec.{leb}
 use lib.ListN.{length, replicate, take, drop, length-append}
 use Rattle.bytes_le.specs.Bytes.{Bytes, put_bytes, same}
-use Rattle.bytes_le.proofs.Loads.{fits}
 use Rattle.icepole.specs.Answers.{fits_output, open_answer, open_length, open_number, open_output, open_refusal, opened_answer, tag_agrees}
 use Rattle.icepole.specs.Answers.{seal_answer, seal_number, seal_output, seal_refusal, sealed_answer}
 use Rattle.blocks.specs.Bounds.{Bounded}

@@ -1,13 +1,10 @@
 -- `blocks::absorb_associated` meets its contract. The loop's invariant: absorbing what is left from here gives what absorbing all gives from the start.
 -- Assumes nothing.
-use mathlib.Core.Path.{◌≡◌, refl}
+use mathlib.Core.Path.{refl}
 use mathlib.Core.List.{◌++◌}
-use Prim.Native.Nat.{◌-◌, ◌*◌, ◌≤◌}
+use Prim.Native.Nat.{◌*◌}
 use native.Mathlib.Omega.{arith}
-use borrow.Author.Rules.{rules}
-use lib.ListN.{drop, length-append}
-use Rattle.state_bytes.specs.StateBytes.{bytes_of}
-use Rattle.blocks.specs.Sealing.{absorb_associated}
+use lib.ListN.{length-append}
 use Rattle.blocks.proofs.Turns.{all, associated, ended, turn}
 use Rattle.blocks.proofs.absorb_associated.Goals as goal
 

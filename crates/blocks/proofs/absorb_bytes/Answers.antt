@@ -3,7 +3,6 @@
 use mathlib.Core.List.{◌++◌}
 use Prim.Native.Nat.{◌*◌, ◌/◌, ◌%◌}
 use native.Mathlib.Omega.{arith}
-use borrow.Author.Rules.{rules}
 use lib.ListN.{length-append}
 use Rattle.state_bytes.specs.StateBytes.{bytes_of}
 use Rattle.state_bytes.proofs.Lengths.{length-bytes}

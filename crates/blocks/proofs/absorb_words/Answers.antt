@@ -2,12 +2,11 @@
 -- Assumes nothing.
 use mathlib.Core.Path.{◌≡◌, refl}
 use mathlib.Core.List.{◌++◌}
-use Prim.Native.Nat.{◌+◌, ◌-◌, ◌*◌, ◌≤◌}
+use Prim.Native.Nat.{◌+◌, ◌*◌}
 use native.Mathlib.Omega.{arith}
-use lib.ListN.{take, drop, length-append}
+use lib.ListN.{length-append}
 use Rattle.state_bytes.specs.StateBytes.{bytes_of}
 use Rattle.state_bytes.proofs.Lengths.{length-bytes}
-use Rattle.blocks.specs.Sealing.{xor_with}
 use Rattle.blocks.proofs.Full.{absorbed}
 use Rattle.blocks.proofs.absorb_words.Goals as goal
 

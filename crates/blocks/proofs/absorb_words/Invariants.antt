@@ -1,14 +1,11 @@
 -- `blocks::absorb_words` meets its contract. The loop's invariant: the words below w are xored in.
 -- Assumes nothing.
-use mathlib.Core.Path.{◌≡◌, refl}
+use mathlib.Core.Path.{◌≡◌}
 use mathlib.Core.List.{◌++◌}
-use Prim.Native.Nat.{◌+◌, ◌-◌, ◌*◌, ◌≤◌}
-use native.Mathlib.Omega.{arith}
-use lib.ListN.{take, drop, length-append}
+use Prim.Native.Nat.{◌-◌, ◌*◌, ◌≤◌}
+use lib.ListN.{take, drop}
 use Rattle.state_bytes.specs.StateBytes.{bytes_of}
-use Rattle.state_bytes.proofs.Lengths.{length-bytes}
 use Rattle.blocks.specs.Sealing.{xor_with}
-use Rattle.blocks.proofs.Full.{absorbed}
 use Rattle.blocks.proofs.absorb_words.Given as goal
 
 abbrev pub invariant-loop-w : goal.invariant-loop-w

@@ -1,6 +1,5 @@
 -- `blocks::decrypt_full` meets its contract: the same call for each count of words.
 -- Assumes nothing.
-use borrow.Author.Rules.{rules}
 use Rattle.blocks.proofs.decrypt_full.Goals as goal
 
 pub returns-then-n-eq-BLOCK_WORDS : goal.returns-then-n-eq-BLOCK_WORDS

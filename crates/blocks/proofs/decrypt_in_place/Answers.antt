@@ -1,14 +1,13 @@
 -- `blocks::decrypt_in_place` meets its contract. The loop's invariant is that of `decrypt_message`, with the buffer as its own output.
 -- Assumes nothing.
-use mathlib.Core.Path.{◌≡◌, refl, ap, ◌∙◌}
-use Prim.Native.Nat.{◌+◌, ◌-◌, ◌*◌, ◌≤◌}
+use mathlib.Core.Path.{refl, ap, ◌∙◌}
+use Prim.Native.Nat.{◌+◌, ◌-◌, ◌*◌}
 use native.Mathlib.Omega.{arith}
 use borrow.Author.Rules.{rules}
-use lib.ListN.{length, take, drop}
 use Rattle.bytes_le.specs.Bytes.{Bytes, put_bytes}
 use Rattle.state_bytes.specs.StateBytes.{bytes_of}
-use Rattle.blocks.specs.Sealing.{◌⊕₈◌, decrypt, xor_with}
-use Rattle.blocks.proofs.Turns.{Written, copied, decrypted, none_written, part, put-end, put-turn}
+use Rattle.blocks.specs.Sealing.{◌⊕₈◌, xor_with}
+use Rattle.blocks.proofs.Turns.{copied, decrypted, none_written, part, put-end, put-turn}
 use Rattle.blocks.proofs.decrypt_in_place.Goals as goal
 
 pub loop-at-init : goal.loop-at-init

@@ -1,12 +1,10 @@
 -- `blocks::decrypt_message` meets its contract. The loop's invariant: the message before here is put, and what is left gives the rest of it.
 -- Assumes nothing.
-use mathlib.Core.Path.{◌≡◌, refl}
-use Prim.Native.Nat.{◌-◌, ◌*◌, ◌≤◌}
+use mathlib.Core.Path.{refl}
+use Prim.Native.Nat.{◌*◌}
 use native.Mathlib.Omega.{arith}
 use borrow.Author.Rules.{rules}
-use lib.ListN.{length, take, drop}
-use Rattle.blocks.specs.Sealing.{decrypt}
-use Rattle.blocks.proofs.Turns.{Written, decrypted, none_written, part, put-end, put-turn}
+use Rattle.blocks.proofs.Turns.{decrypted, none_written, part, put-end, put-turn}
 use Rattle.blocks.proofs.decrypt_message.Goals as goal
 
 pub loop-at-init : goal.loop-at-init

@@ -4,7 +4,6 @@ use mathlib.Core.Path.{◌≡◌, ap, ◌∙◌}
 use Prim.Native.Nat.{ℕ, ◌+◌, ◌*◌, ◌≤◌}
 use native.Mathlib.Omega.{arith}
 use lib.Bits.{bit_xor}
-use borrow.Author.Rules.{rules}
 use lib.ListN.{length}
 use Rattle.bytes_le.specs.Bytes.{le, put_bytes}
 use Rattle.state_bytes.specs.StateBytes.{bytes_of}

@@ -1,18 +1,11 @@
 -- `blocks::decrypt_words` meets its contract. The loop's invariant: the words below w are put, and stand in the state as ciphertext.
 -- Assumes nothing.
-use mathlib.Core.Path.{◌≡◌, refl}
-use Prim.Native.Nat.{◌+◌, ◌-◌, ◌*◌, ◌≤◌}
-use native.Mathlib.Omega.{arith}
-use borrow.Author.Rules.{rules}
+use mathlib.Core.Path.{◌≡◌}
+use Prim.Native.Nat.{◌-◌, ◌*◌, ◌≤◌}
 use lib.ListN.{length, take, drop}
 use Rattle.bytes_le.specs.Bytes.{put_bytes}
-use Rattle.bytes_le.proofs.Laws.{put-none}
 use Rattle.state_bytes.specs.StateBytes.{bytes_of}
-use Rattle.state_bytes.proofs.Lengths.{length-bytes}
 use Rattle.blocks.specs.Sealing.{◌⊕₈◌, xor_with}
-use Rattle.blocks.proofs.Full.{decrypted}
-use Rattle.blocks.proofs.Steps.{xor-with-none}
-use Rattle.blocks.proofs.Xor.{xor-none}
 use Rattle.blocks.proofs.decrypt_words.Given as goal
 
 abbrev pub invariant-loop-w : goal.invariant-loop-w

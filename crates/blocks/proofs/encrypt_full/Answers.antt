@@ -1,6 +1,5 @@
 -- `blocks::encrypt_full` meets its contract: the same call for each count of words.
 -- Assumes nothing.
-use borrow.Author.Rules.{rules}
 use Rattle.blocks.proofs.encrypt_full.Goals as goal
 
 pub returns-then-n-eq-BLOCK_WORDS : goal.returns-then-n-eq-BLOCK_WORDS

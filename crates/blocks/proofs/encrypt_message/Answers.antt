@@ -1,13 +1,10 @@
 -- `blocks::encrypt_message` meets its contract. The loop's invariant: the ciphertext before here is put, and what is left gives the rest of it.
 -- Assumes nothing.
-use mathlib.Core.Path.{◌≡◌, refl}
-use Prim.Native.Nat.{◌-◌, ◌*◌, ◌≤◌}
+use mathlib.Core.Path.{refl}
+use Prim.Native.Nat.{◌*◌}
 use native.Mathlib.Omega.{arith}
 use borrow.Author.Rules.{rules}
-use lib.ListN.{length, drop}
-use Rattle.state_bytes.specs.StateBytes.{bytes_of}
-use Rattle.blocks.specs.Sealing.{absorb_message, encrypt}
-use Rattle.blocks.proofs.Turns.{Written, all, encrypted, ended, message, none_written, put-end, put-turn, turn}
+use Rattle.blocks.proofs.Turns.{all, encrypted, ended, message, none_written, put-end, put-turn, turn}
 use Rattle.blocks.proofs.encrypt_message.Goals as goal
 
 pub loop-at-init : goal.loop-at-init

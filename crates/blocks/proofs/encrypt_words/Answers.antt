@@ -1,15 +1,12 @@
 -- `blocks::encrypt_words` meets its contract. The loop's invariant: the words below w are put and xored in.
 -- Assumes nothing.
 use mathlib.Core.Path.{◌≡◌, refl}
-use Prim.Native.Nat.{◌+◌, ◌-◌, ◌*◌, ◌≤◌}
+use Prim.Native.Nat.{◌+◌, ◌*◌}
 use native.Mathlib.Omega.{arith}
 use borrow.Author.Rules.{rules}
-use lib.ListN.{length, take, drop}
-use Rattle.bytes_le.specs.Bytes.{put_bytes}
 use Rattle.bytes_le.proofs.Laws.{put-none}
 use Rattle.state_bytes.specs.StateBytes.{bytes_of}
 use Rattle.state_bytes.proofs.Lengths.{length-bytes}
-use Rattle.blocks.specs.Sealing.{◌⊕₈◌, xor_with}
 use Rattle.blocks.proofs.Full.{encrypted}
 use Rattle.blocks.proofs.Xor.{xor-none}
 use Rattle.blocks.proofs.encrypt_words.Goals as goal

@@ -1,7 +1,6 @@
 -- `blocks::finish` meets its contract: the padding is xored into the word where byte n lies, then P6.
 -- Assumes nothing.
 use mathlib.Core.Path.{ap, ◌∙◌}
-use borrow.Author.Rules.{rules}
 use Rattle.state_bytes.specs.StateBytes.{bytes_of, permuted}
 use Rattle.state_bytes.proofs.Lengths.{length-bytes}
 use Rattle.blocks.proofs.Steps.{padded-word}

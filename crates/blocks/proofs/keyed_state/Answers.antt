@@ -6,7 +6,6 @@ use Prim.Native.Nat.{◌+◌, ◌-◌}
 use native.Mathlib.Omega.{arith}
 use lib.ListN.{length, take, drop, replicate, length-append}
 use lib.Seq.{take_all}
-use borrow.Author.Rules.{rules}
 use Rattle.state_bytes.specs.StateBytes.{permuted, start_bytes}
 use Rattle.blocks.specs.Lengths.{max_nonce}
 use Rattle.blocks.specs.Sealing.{keyed, xor_with}

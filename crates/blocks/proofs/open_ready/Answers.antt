@@ -1,7 +1,6 @@
 -- `blocks::open_ready` meets its contract: the secret number is put, and the associated data absorbed.
 -- Assumes nothing.
 use mathlib.Core.List.{◌++◌}
-use borrow.Author.Rules.{rules}
 use Rattle.blocks.proofs.Whole.{opened-ready}
 use Rattle.blocks.proofs.open_ready.Goals as goal
 

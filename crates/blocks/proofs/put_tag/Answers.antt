@@ -1,6 +1,5 @@
 -- `blocks::put_tag` meets its contract: the tag is words 0 and 1.
 -- Assumes nothing.
-use borrow.Author.Rules.{rules}
 use Rattle.state_bytes.specs.StateBytes.{bytes_of}
 use Rattle.blocks.proofs.Steps.{put-words}
 use Rattle.blocks.proofs.put_tag.Goals as goal

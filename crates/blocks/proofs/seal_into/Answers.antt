@@ -2,7 +2,6 @@
 -- Assumes nothing.
 use mathlib.Core.List.{◌++◌}
 use native.Mathlib.Omega.{arith}
-use borrow.Author.Rules.{rules}
 use Rattle.blocks.proofs.Whole.{sealed-runs}
 use Rattle.blocks.proofs.seal_into.Goals as goal
 

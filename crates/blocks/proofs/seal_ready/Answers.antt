@@ -1,7 +1,6 @@
 -- `blocks::seal_ready` meets its contract: the sealed secret number is put, and the associated data absorbed.
 -- Assumes nothing.
 use mathlib.Core.List.{◌++◌}
-use borrow.Author.Rules.{rules}
 use Rattle.blocks.proofs.Whole.{sealed-ready}
 use Rattle.blocks.proofs.seal_ready.Goals as goal
 

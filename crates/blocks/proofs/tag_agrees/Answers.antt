@@ -1,7 +1,6 @@
 -- `blocks::tag_agrees` meets its contract: the state after the message, and its tag beside the one at the end.
 -- Assumes nothing.
 use mathlib.Core.Path.{refl}
-use borrow.Author.Rules.{rules}
 use Rattle.blocks.proofs.Whole.{tag_at}
 use Rattle.blocks.proofs.tag_agrees.Goals as goal
 

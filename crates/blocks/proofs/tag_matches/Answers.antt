@@ -1,6 +1,5 @@
 -- `blocks::tag_matches` meets its contract: words are the same where their bytes are.
 -- Assumes nothing.
-use borrow.Author.Rules.{rules}
 use Rattle.state_bytes.specs.StateBytes.{bytes_of}
 use Rattle.blocks.proofs.Steps.{same-words}
 use Rattle.blocks.proofs.tag_matches.Goals as goal

@@ -1,12 +1,8 @@
 -- `blocks::verify_message` meets its contract. The loop's invariant: what is left from here ends in the same state as all from the start.
 -- Assumes nothing.
-use mathlib.Core.Path.{◌≡◌, refl}
-use Prim.Native.Nat.{◌-◌, ◌*◌, ◌≤◌}
+use mathlib.Core.Path.{refl}
+use Prim.Native.Nat.{◌*◌}
 use native.Mathlib.Omega.{arith}
-use borrow.Author.Rules.{rules}
-use lib.ListN.{take, drop}
-use Rattle.state_bytes.specs.StateBytes.{bytes_of}
-use Rattle.blocks.specs.Sealing.{absorb_message, decrypt}
 use Rattle.blocks.proofs.Turns.{checked, ended, part, turn}
 use Rattle.blocks.proofs.verify_message.Goals as goal
 

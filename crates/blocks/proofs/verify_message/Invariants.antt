@@ -1,13 +1,10 @@
 -- `blocks::verify_message` meets its contract. The loop's invariant: what is left from here ends in the same state as all from the start.
 -- Assumes nothing.
-use mathlib.Core.Path.{◌≡◌, refl}
-use Prim.Native.Nat.{◌-◌, ◌*◌, ◌≤◌}
-use native.Mathlib.Omega.{arith}
-use borrow.Author.Rules.{rules}
+use mathlib.Core.Path.{◌≡◌}
+use Prim.Native.Nat.{◌-◌, ◌≤◌}
 use lib.ListN.{take, drop}
 use Rattle.state_bytes.specs.StateBytes.{bytes_of}
 use Rattle.blocks.specs.Sealing.{absorb_message, decrypt}
-use Rattle.blocks.proofs.Turns.{checked, ended, part, turn}
 use Rattle.blocks.proofs.verify_message.Given as goal
 
 abbrev pub invariant-loop-at : goal.invariant-loop-at

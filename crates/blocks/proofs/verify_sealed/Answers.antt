@@ -1,6 +1,5 @@
 -- `blocks::verify_sealed` meets its contract: the tag that `tag_agrees` looks for is the one that belongs to what the sealed message holds.
 -- Assumes nothing.
-use borrow.Author.Rules.{rules}
 use Rattle.blocks.proofs.Whole.{agrees}
 use Rattle.blocks.proofs.verify_sealed.Goals as goal
 

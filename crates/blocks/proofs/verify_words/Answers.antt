@@ -1,12 +1,10 @@
 -- `blocks::verify_words` meets its contract. The loop's invariant: the words below w of ciphertext stand in the state.
 -- Assumes nothing.
 use mathlib.Core.Path.{◌≡◌}
-use Prim.Native.Nat.{◌+◌, ◌-◌, ◌*◌, ◌≤◌}
+use Prim.Native.Nat.{◌+◌, ◌*◌}
 use native.Mathlib.Omega.{arith}
-use lib.ListN.{take, drop}
 use Rattle.state_bytes.specs.StateBytes.{bytes_of}
 use Rattle.state_bytes.proofs.Lengths.{length-bytes}
-use Rattle.blocks.specs.Sealing.{◌⊕₈◌, xor_with}
 use Rattle.blocks.proofs.Full.{verified}
 use Rattle.blocks.proofs.Steps.{xor-with-none}
 use Rattle.blocks.proofs.verify_words.Goals as goal

@@ -2,7 +2,6 @@
 -- Assumes nothing.
 use mathlib.Core.Path.{◌∙◌}
 use native.Mathlib.Omega.{arith}
-use borrow.Author.Rules.{rules}
 use Rattle.bytes_le.proofs.Laws.{put_whole}
 use Rattle.burst.proofs.array_of.Goals as goal
 

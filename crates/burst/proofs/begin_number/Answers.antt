@@ -2,7 +2,6 @@
 -- Assumes nothing.
 use mathlib.Core.Path.{sym, ◌∙◌}
 use native.Mathlib.Omega.{arith}
-use borrow.Author.Rules.{rules}
 use Rattle.burst.proofs.Numbers.{begin-1, begin-3, begin-15, begin-11, begin-0}
 use Rattle.burst.proofs.begin_number.Goals as goal
 

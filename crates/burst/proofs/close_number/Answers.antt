@@ -2,8 +2,6 @@
 -- Assumes nothing.
 use mathlib.Core.Path.{sym, ◌∙◌}
 use native.Mathlib.Omega.{arith}
-use borrow.Author.Rules.{rules}
-use borrow.Author.Tests.{not-true, not-false}
 use Rattle.burst.proofs.Numbers.{close-8, close-11, close-0}
 use Rattle.burst.proofs.close_number.Goals as goal
 

@@ -2,8 +2,6 @@
 -- Assumes nothing.
 use mathlib.Core.Path.{sym, ◌∙◌}
 use native.Mathlib.Omega.{arith}
-use borrow.Author.Rules.{rules}
-use borrow.Author.Tests.{not-true, not-false}
 use Rattle.burst.proofs.Numbers.{drop-8, drop-9, drop-0}
 use Rattle.burst.proofs.drop_number.Goals as goal
 

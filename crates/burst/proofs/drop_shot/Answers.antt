@@ -2,7 +2,6 @@
 -- Assumes nothing.
 use mathlib.Core.Path.{sym, ◌∙◌}
 use native.Mathlib.Omega.{arith}
-use borrow.Author.Rules.{rules}
 use Rattle.burst.specs.Recorder.{after_drop}
 use Rattle.burst.proofs.Numbers.{drops}
 use Rattle.burst.proofs.Answers.{drop-refused, drop-done}

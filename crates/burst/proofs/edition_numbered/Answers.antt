@@ -1,12 +1,9 @@
 -- `burst::edition_numbered` meets its contract. The loop's invariant: the row among all is the row among those from i on.
 -- Assumes nothing.
-use mathlib.Core.Path.{◌≡◌, refl, sym, subst, ◌∙◌}
-use Prim.Native.Nat.{◌-◌, ◌≤◌}
+use mathlib.Core.Path.{refl, sym, subst, ◌∙◌}
 use native.Mathlib.Omega.{arith}
-use borrow.Author.Rules.{rules}
-use lib.ListN.{length, drop}
 use Rattle.burst.specs.declared.Edition.{Edition}
-use Rattle.burst.specs.Editions.{editions, row_in, numbered, Known}
+use Rattle.burst.specs.Editions.{Known}
 use Rattle.burst.proofs.Rows.{numbered-known, search-starts, row_here, row-later, row-nowhere}
 use Rattle.burst.proofs.edition_numbered.Goals as goal
 

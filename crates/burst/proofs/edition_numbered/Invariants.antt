@@ -1,13 +1,9 @@
 -- `burst::edition_numbered` meets its contract. The loop's invariant: the row among all is the row among those from i on.
 -- Assumes nothing.
-use mathlib.Core.Path.{◌≡◌, refl, sym, subst, ◌∙◌}
+use mathlib.Core.Path.{◌≡◌}
 use Prim.Native.Nat.{◌-◌, ◌≤◌}
-use native.Mathlib.Omega.{arith}
-use borrow.Author.Rules.{rules}
 use lib.ListN.{length, drop}
-use Rattle.burst.specs.declared.Edition.{Edition}
-use Rattle.burst.specs.Editions.{editions, row_in, numbered, Known}
-use Rattle.burst.proofs.Rows.{numbered-known, search-starts, row_here, row-later, row-nowhere}
+use Rattle.burst.specs.Editions.{editions, row_in, numbered}
 use Rattle.burst.proofs.edition_numbered.Given as goal
 
 abbrev pub invariant-loop-i : goal.invariant-loop-i

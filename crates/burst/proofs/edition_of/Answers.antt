@@ -1,8 +1,7 @@
 -- `burst::edition_of` meets its contract.
 -- Assumes nothing.
 use mathlib.Core.Path.{◌≡◌, sym, ap, ◌∙◌}
-use borrow.Author.Rules.{rules}
-use lib.ListN.{length, length-map}
+use lib.ListN.{length}
 use Rattle.burst.specs.Editions.{written}
 use Rattle.burst.proofs.edition_of.Goals as goal
 

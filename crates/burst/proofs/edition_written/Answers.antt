@@ -1,7 +1,6 @@
 -- `burst::edition_written` meets its contract.
 -- Assumes nothing.
 use mathlib.Core.Path.{◌∙◌}
-use borrow.Author.Rules.{rules}
 use Rattle.burst.proofs.Rows.{written-numbered}
 use Rattle.burst.proofs.edition_written.Goals as goal
 

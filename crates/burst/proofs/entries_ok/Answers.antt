@@ -1,13 +1,10 @@
 -- `burst::entries_ok` meets its contract. The loop's invariant: the rules of all entries come to those of the entries from i on.
 -- Assumes nothing.
 use mathlib.Core.Path.{◌≡◌, refl, sym, ◌∙◌}
-use Prim.Native.Nat.{◌+◌, ◌-◌, ◌*◌, ◌≤◌}
 use native.Mathlib.Omega.{arith}
-use borrow.Author.Rules.{rules}
-use borrow.Author.Tests.{not-true, not-false}
-use lib.ListN.{length, take, drop}
+use lib.ListN.{length}
 use Rattle.burst.specs.Editions.{max_entries}
-use Rattle.burst.specs.Index.{entry_of, index_rules}
+use Rattle.burst.specs.Index.{entry_of}
 use Rattle.burst.proofs.Rules.{obeys, turn, fault, ended}
 use Rattle.burst.proofs.entries_ok.Goals as goal
 use Rattle.burst.proofs.entries_ok.Goals.{Start}

@@ -1,14 +1,9 @@
 -- `burst::entries_ok` meets its contract. The loop's invariant: the rules of all entries come to those of the entries from i on.
 -- Assumes nothing.
-use mathlib.Core.Path.{◌≡◌, refl, sym, ◌∙◌}
+use mathlib.Core.Path.{◌≡◌}
 use Prim.Native.Nat.{◌+◌, ◌-◌, ◌*◌, ◌≤◌}
-use native.Mathlib.Omega.{arith}
-use borrow.Author.Rules.{rules}
-use borrow.Author.Tests.{not-true, not-false}
-use lib.ListN.{length, take, drop}
-use Rattle.burst.specs.Editions.{max_entries}
-use Rattle.burst.specs.Index.{entry_of, index_rules}
-use Rattle.burst.proofs.Rules.{obeys, turn, fault, ended}
+use lib.ListN.{take, drop}
+use Rattle.burst.specs.Index.{index_rules}
 use Rattle.burst.proofs.entries_ok.Given as goal
 
 abbrev pub invariant-loop-i : goal.invariant-loop-i

@@ -3,7 +3,6 @@
 use mathlib.Core.Path.{ap, ◌∙◌}
 use Prim.Native.Nat.{ℕ, ◌+◌}
 use native.Mathlib.Omega.{arith}
-use borrow.Author.Rules.{rules}
 use Rattle.bytes_le.specs.Bytes.{put_bytes, le}
 use Rattle.burst.specs.Recorder.{name_of}
 use Rattle.burst.proofs.Puts.{header-put}

@@ -1,15 +1,10 @@
 -- `burst::index_of` meets its contract. The loop's invariant: the first i entries are put.
 -- Assumes nothing.
-use mathlib.Core.Path.{◌≡◌, refl, ap, ◌∙◌}
-use Prim.Native.Nat.{ℕ, ◌-◌, ◌*◌, ◌≤◌}
-use native.Mathlib.Omega.{arith}
-use borrow.Author.Rules.{rules}
-use lib.ListN.{length, take, get_or, length-map}
-use Rattle.burst.specs.Editions.{max_entries}
+use mathlib.Core.Path.{◌≡◌}
+use Prim.Native.Nat.{◌-◌, ◌*◌, ◌≤◌}
+use lib.ListN.{length, take}
 use Rattle.burst.specs.Layout.{max_index}
-use Rattle.burst.specs.Index.{entry_of, index_bytes}
-use Rattle.burst.specs.Recorder.{recorder_index}
-use Rattle.burst.proofs.Puts.{index-turn, length-entry-of}
+use Rattle.burst.specs.Index.{index_bytes}
 use Rattle.burst.proofs.index_of.Given as goal
 
 abbrev pub invariant-loop-i : goal.invariant-loop-i

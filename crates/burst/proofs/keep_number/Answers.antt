@@ -2,8 +2,6 @@
 -- Assumes nothing.
 use mathlib.Core.Path.{sym, ◌∙◌}
 use native.Mathlib.Omega.{arith}
-use borrow.Author.Rules.{rules}
-use borrow.Author.Tests.{not-true, not-false}
 use Rattle.burst.proofs.Rules.{sounds}
 use Rattle.burst.proofs.Numbers.{keep-8, keep-3, keep-9, keep-10, keep-10', keep-11, keep-0}
 use Rattle.burst.proofs.keep_number.Goals as goal

@@ -1,6 +1,5 @@
 -- `burst::nonce_of` meets its contract.
 -- Assumes nothing.
-use borrow.Author.Rules.{rules}
 use Rattle.burst.proofs.Puts.{nonce-put}
 use Rattle.burst.proofs.nonce_of.Goals as goal
 

@@ -4,7 +4,6 @@ use mathlib.Core.List.{◌++◌}
 use mathlib.Core.Path.{◌∙◌}
 use Prim.Native.Nat.{◌+◌, ◌≤◌}
 use native.Mathlib.Omega.{arith}
-use borrow.Author.Rules.{rules}
 use lib.ListN.{length, length-append}
 use Rattle.burst.specs.Editions.{max_header}
 use Rattle.burst.specs.Layout.{max_index}

@@ -3,7 +3,6 @@
 use mathlib.Core.Path.{◌≡◌, ap, ◌∙◌}
 use Prim.Native.Nat.{ℕ}
 use native.Mathlib.Omega.{arith}
-use borrow.Author.Rules.{rules}
 use Rattle.blocks.specs.declared.Sizes.{Sizes}
 use Rattle.padded_blocks.specs.PaddedBlocks.{seal_blocks}
 use Rattle.burst.specs.Parts.{part_blocks}

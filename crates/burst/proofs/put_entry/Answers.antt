@@ -1,7 +1,6 @@
 -- `burst::put_entry` meets its contract: the entry's four fields, one behind the other.
 -- Assumes nothing.
 use native.Mathlib.Omega.{arith}
-use borrow.Author.Rules.{rules}
 use Rattle.burst.specs.Index.{bytes_of_entry}
 use Rattle.burst.proofs.Puts.{entry-put}
 use Rattle.burst.proofs.put_entry.Goals as goal

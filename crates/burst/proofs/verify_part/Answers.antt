@@ -3,7 +3,6 @@
 use mathlib.Core.List.{◌++◌}
 use mathlib.Core.Path.{◌∙◌}
 use native.Mathlib.Omega.{arith}
-use borrow.Author.Rules.{rules}
 use lib.ListN.{length-append}
 use Rattle.burst.proofs.Parts.{part-verified}
 use Rattle.burst.proofs.verify_part.Goals as goal

@@ -1,6 +1,5 @@
 -- `burst::with_picture` meets its contract.
 -- Assumes nothing.
-use borrow.Author.Rules.{rules}
 use Rattle.burst.specs.Recorder.{after_keep}
 use Rattle.burst.proofs.Answers.{kept-with}
 use Rattle.burst.proofs.with_picture.Goals as goal

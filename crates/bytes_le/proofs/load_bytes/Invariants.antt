@@ -1,12 +1,9 @@
 -- `bytes_le::load_bytes` meets its contract. The loop's invariant: x is the number of the n high bytes.
 -- Assumes nothing.
-use mathlib.Core.Path.{◌≡◌, refl, sym, ap, ap₂, ◌∙◌}
-use Prim.Native.Nat.{ℕ, ◌+◌, ◌-◌, ◌*◌, ◌^◌, ◌<◌, ◌≤◌}
-use native.Mathlib.Omega.{arith}
-use native.Mathlib.Numerals.{add-one}
-use lib.ListN.{length, take, drop, get_or}
-use Rattle.bytes_le.specs.Bytes.{le, unle, le_at}
-use Rattle.bytes_le.proofs.Loads.{fits, grow, one_more, one-more-byte}
+use mathlib.Core.Path.{◌≡◌}
+use Prim.Native.Nat.{◌+◌, ◌-◌, ◌^◌, ◌<◌, ◌≤◌}
+use lib.ListN.{take, drop}
+use Rattle.bytes_le.specs.Bytes.{le, unle}
 use Rattle.bytes_le.proofs.load_bytes.Given as goal
 
 abbrev pub invariant-loop-j : goal.invariant-loop-j

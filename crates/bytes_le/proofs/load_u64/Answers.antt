@@ -1,6 +1,5 @@
 -- `bytes_le::load_u64` meets its contract: it is `load_bytes` at eight bytes.
 -- Assumes nothing.
-use borrow.Author.Rules.{rules}
 use Rattle.bytes_le.specs.Bytes.{le_at}
 use Rattle.bytes_le.proofs.load_u64.Goals as goal
 

@@ -1,10 +1,9 @@
 -- `bytes_le::store_bytes` meets its contract. The loop's invariant: the low j bytes are put, and y is the rest of x.
 -- Assumes nothing.
 use mathlib.Core.Path.{◌≡◌, refl, ap₂, ◌∙◌}
-use Prim.Native.Nat.{ℕ, suc, ◌+◌, ◌-◌, ◌≤◌}
+use Prim.Native.Nat.{ℕ, suc, ◌+◌, ◌-◌}
 use native.Mathlib.Omega.{arith}
-use borrow.Author.Rules.{rules}
-use lib.ListN.{length, length-set}
+use lib.ListN.{length-set}
 use lib.Seq.{sets}
 use native.Mathlib.Nat.{add-zero, sub-zero}
 use Rattle.bytes_le.specs.Bytes.{le}

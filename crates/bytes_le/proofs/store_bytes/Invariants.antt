@@ -1,14 +1,10 @@
 -- `bytes_le::store_bytes` meets its contract. The loop's invariant: the low j bytes are put, and y is the rest of x.
 -- Assumes nothing.
-use mathlib.Core.Path.{◌≡◌, refl, ap₂, ◌∙◌}
-use Prim.Native.Nat.{ℕ, suc, ◌+◌, ◌-◌, ◌≤◌}
-use native.Mathlib.Omega.{arith}
-use borrow.Author.Rules.{rules}
-use lib.ListN.{length, length-set}
+use mathlib.Core.Path.{◌≡◌}
+use Prim.Native.Nat.{◌+◌, ◌-◌, ◌≤◌}
+use lib.ListN.{length}
 use lib.Seq.{sets}
-use native.Mathlib.Nat.{add-zero, sub-zero}
 use Rattle.bytes_le.specs.Bytes.{le}
-use Rattle.bytes_le.proofs.Laws.{sets-put, length-le}
 use Rattle.bytes_le.proofs.store_bytes.Given as goal
 
 abbrev pub invariant-loop-j : goal.invariant-loop-j

@@ -2,7 +2,6 @@
 -- Assumes nothing.
 use mathlib.Core.Path.{◌≡◌}
 use native.Mathlib.Omega.{arith}
-use borrow.Author.Rules.{rules}
 use Rattle.bytes_le.proofs.store_le.Goals as goal
 
 pub returns-then-n-eq8 : goal.returns-then-n-eq8

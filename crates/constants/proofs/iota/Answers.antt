@@ -2,7 +2,6 @@
 -- Assumes nothing.
 use mathlib.Core.Path.{ap, ◌∙◌}
 use Prim.Native.Nat.{ℕ}
-use borrow.Author.Rules.{rules}
 use Rattle.permutation.specs.State.{at, set_word}
 use Rattle.permutation.specs.Words.{◌⊻◌}
 use Rattle.permutation.proofs.Bounds.{words}

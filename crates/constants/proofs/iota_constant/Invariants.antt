@@ -1,14 +1,9 @@
 -- `constants::iota_constant` meets its contract. The loop's invariant: the bits of the first j turns are set.
 -- Assumes nothing.
-use mathlib.Core.Path.{◌≡◌, refl, ap, ap₂, ◌∙◌}
-use mathlib.Core.Bool.{Bool}
-use Prim.Native.Nat.{ℕ, ◌-◌, ◌*◌, ◌%◌, ◌^◌, ◌≤◌}
-use native.Mathlib.Omega.{arith}
-use borrow.Author.Rules.{rules}
-use Rattle.bits.specs.Bits.{number, word}
+use mathlib.Core.Path.{◌≡◌}
+use Prim.Native.Nat.{◌-◌, ◌≤◌}
+use Rattle.bits.specs.Bits.{word}
 use Rattle.constants.specs.Keccak.{RC}
-use Rattle.constants.specs.Words.{with_bit}
-use Rattle.constants.proofs.IotaConstant.{one-to-64, next_bit}
 use Rattle.constants.proofs.iota_constant.Given as goal
 
 abbrev pub invariant-loop-j : goal.invariant-loop-j

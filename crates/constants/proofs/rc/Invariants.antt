@@ -1,14 +1,8 @@
 -- `constants::rc` meets its contract. The loop's invariant: r is the register after as many turns.
 -- Assumes nothing.
-use mathlib.Core.Path.{◌≡◌, refl, sym, ap, ◌∙◌}
-use mathlib.Core.Bool.{Bool, false}
-use mathlib.Core.List.{List}
-use Prim.Native.Nat.{◌-◌, ◌%◌, ◌≤◌}
-use native.Mathlib.Omega.{arith}
-use native.Mathlib.Numerals.{add-one}
-use lib.ListN.{get_or}
-use borrow.Author.Rules.{rules}
-use Rattle.constants.specs.Keccak.{register_turn, register}
+use mathlib.Core.Path.{◌≡◌}
+use Prim.Native.Nat.{◌-◌, ◌≤◌}
+use Rattle.constants.specs.Keccak.{register}
 use Rattle.constants.proofs.rc.Given as goal
 
 abbrev pub invariant-loop : goal.invariant-loop

@@ -1,11 +1,10 @@
 -- `constants::rho` meets its contract. The loop's invariant: x, y and b are those of the standard's loop after t turns.
 -- Assumes nothing.
 use mathlib.Core.Path.{◌≡◌, sym, ap, ◌∙◌}
-use Prim.Native.Nat.{ℕ, ◌+◌, ◌-◌, ◌*◌, ◌%◌, ◌≤◌, ◌<◌}
+use Prim.Native.Nat.{ℕ, ◌+◌, ◌*◌, ◌%◌, ◌≤◌}
 use native.Mathlib.Nat.{mul-le-mul}
 use native.Mathlib.Omega.{arith}
 use native.Mathlib.Numerals.{add-one}
-use borrow.Author.Rules.{rules}
 use Rattle.permutation.specs.State.{set_word}
 use Rattle.permutation.specs.Permutation.{rotl}
 use Rattle.constants.specs.Keccak.{StateArray, Walk, rho_turn, walk, ρ}

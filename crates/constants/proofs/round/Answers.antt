@@ -1,7 +1,6 @@
 -- `constants::round` meets its contract: the five steps, one after the other.
 -- Assumes nothing.
 use mathlib.Core.Path.{ap, ◌∙◌}
-use borrow.Author.Rules.{rules}
 use Rattle.constants.specs.Keccak.{StateArray, ρ, π, χ, ι, Rnd}
 use Rattle.constants.proofs.round.Goals as goal
 

@@ -1,11 +1,11 @@
 -- `constants::round_constants` meets its contract. The loop's invariant: r is the number after n steps, and the constants before n stand in the table.
 -- Assumes nothing.
 use mathlib.Core.Path.{◌≡◌, refl, sym, ap, ◌∙◌}
-use Prim.Native.Nat.{ℕ, suc, ◌-◌}
+use Prim.Native.Nat.{ℕ, suc}
 use native.Mathlib.Numerals.{add-one}
 use borrow.Author.Rules.{rules}
 use Rattle.constants.specs.Tables.{stepped, after_steps, round_constants}
-use Rattle.constants.proofs.Lists.{Filled, filled_next, filled-all}
+use Rattle.constants.proofs.Lists.{filled_next, filled-all}
 use Rattle.constants.proofs.round_constants.Goals as goal
 
 pub loop-n-init : goal.loop-n-init

@@ -1,7 +1,6 @@
 -- `constants::step` meets its contract.
 -- Assumes nothing.
 use native.Mathlib.Omega.{arith}
-use borrow.Author.Rules.{rules}
 use Rattle.constants.proofs.Steps.{step-sets, step-leaves}
 use Rattle.constants.proofs.step.Goals as goal
 

@@ -2,8 +2,7 @@
 -- Assumes nothing.
 use mathlib.Core.Path.{refl, ap, ap₂, ◌∙◌}
 use mathlib.Core.List.{[]}
-use Prim.Native.Nat.{ℕ, ◌-◌}
-use native.Mathlib.Omega.{arith}
+use Prim.Native.Nat.{ℕ}
 use lib.ListN.{get_or}
 use borrow.Author.Rules.{rules}
 use Rattle.permutation.specs.Permutation.{rotl}
@@ -11,7 +10,7 @@ use Rattle.permutation.specs.Words.{◌⊻◌}
 use Rattle.permutation.proofs.Bounds.{words}
 use Rattle.constants.specs.Keccak.{StateArray}
 use Rattle.constants.specs.Words.{xor_each}
-use Rattle.constants.proofs.Lists.{Filled, filled_next, filled-all}
+use Rattle.constants.proofs.Lists.{filled_next, filled-all}
 use Rattle.constants.proofs.Lanes.{theta-sheet, theta-agrees}
 use Rattle.constants.proofs.theta.Goals as goal
 

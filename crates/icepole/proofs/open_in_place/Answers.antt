@@ -2,7 +2,6 @@
 -- Assumes nothing.
 use mathlib.Core.Bool.{true}
 use mathlib.Core.List.{◌++◌}
-use borrow.Author.Rules.{rules}
 use Rattle.blocks.specs.Bounds.{Bounded}
 use Rattle.icepole.proofs.Answers.{decrypted, open_stays, to-decrypt}
 use Rattle.icepole.proofs.Bounds.{bounded-by}

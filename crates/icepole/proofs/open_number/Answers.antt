@@ -3,7 +3,6 @@
 use mathlib.Core.Path.{ap, ◌∙◌}
 use mathlib.Core.Bool.{true}
 use Prim.Native.Nat.{◌+◌}
-use borrow.Author.Rules.{rules}
 use Rattle.icepole.specs.Answers.{open_number}
 use Rattle.blocks.specs.Bounds.{Bounded}
 use Rattle.blocks.specs.declared.Sizes.{Sizes}

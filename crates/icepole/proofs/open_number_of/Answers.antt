@@ -2,7 +2,6 @@
 -- Assumes nothing.
 use native.Mathlib.Omega.{arith}
 use borrow.Author.Rules.{rules}
-use borrow.Author.Tests.{not-false, not-true}
 use Rattle.icepole.proofs.Numbers.{open-0, open-1, open-2, open-4, open-4', open-5, open-6}
 use Rattle.icepole.proofs.open_number_of.Goals as goal
 

@@ -3,7 +3,6 @@
 use mathlib.Core.Path.{refl, sym, ap, ◌∙◌}
 use mathlib.Core.List.{◌++◌}
 use native.Mathlib.Omega.{arith}
-use borrow.Author.Rules.{rules}
 use Rattle.blocks.specs.Bounds.{Bounded}
 use Rattle.blocks.specs.Sealing.{ready_of}
 use Rattle.blocks.specs.declared.Sizes.{Sizes}

@@ -2,7 +2,6 @@
 -- Assumes nothing.
 use mathlib.Core.Path.{refl, sym, ◌∙◌}
 use native.Mathlib.Omega.{arith}
-use borrow.Author.Rules.{rules}
 use Rattle.blocks.specs.Bounds.{Bounded}
 use Rattle.icepole.proofs.Answers.{seal-done, seal-refused}
 use Rattle.icepole.proofs.Bounds.{bounded-by}

@@ -2,7 +2,6 @@
 -- Assumes nothing.
 use mathlib.Core.Path.{ap, ◌∙◌}
 use Prim.Native.Nat.{◌+◌}
-use borrow.Author.Rules.{rules}
 use Rattle.icepole.specs.Answers.{seal_number}
 use Rattle.blocks.specs.Bounds.{Bounded}
 use Rattle.blocks.specs.declared.Sizes.{Sizes}

@@ -1,10 +1,6 @@
 -- `listing::put_head` meets its contract: each field touches the one before.
 -- Assumes nothing.
-use Prim.Native.Nat.{ℕ, ◌≤◌}
 use native.Mathlib.Omega.{arith}
-use borrow.Author.Rules.{rules}
-use lib.ListN.{length}
-use Rattle.bytes_le.specs.Bytes.{Bytes}
 use Rattle.plain_text.specs.Text.{ascii}
 use Rattle.plain_text.proofs.Puts.{field-length}
 use Rattle.listing.proofs.Puts.{head-put}

@@ -1,16 +1,11 @@
 -- `listing::put_shots` meets its contract. The loop's invariant: the lines that are left, put from here on, make what was to be put.
 -- Assumes nothing.
-use mathlib.Core.Path.{◌≡◌, refl, sym, ap, ◌∙◌}
-use Prim.Native.Nat.{ℕ, suc, ◌+◌, ◌-◌, ◌*◌, ◌≤◌}
-use native.Mathlib.Nat.{add-zero}
-use native.Mathlib.Omega.{arith}
-use borrow.Author.Rules.{rules}
+use mathlib.Core.Path.{◌≡◌}
+use Prim.Native.Nat.{◌+◌, ◌*◌, ◌≤◌}
 use lib.ListN.{length}
-use Rattle.bytes_le.specs.Bytes.{Bytes, put_bytes}
-use Rattle.bytes_le.proofs.Laws.{put-none}
+use Rattle.bytes_le.specs.Bytes.{put_bytes}
 use Rattle.reader.specs.Front.{entries_at}
 use Rattle.listing.specs.Listing.{shot_lines}
-use Rattle.listing.proofs.Lines.{no-shots, shot-length, shots-bytes, shots-index}
 use Rattle.listing.proofs.put_shots.Given as goal
 
 abbrev pub invariant-loop-left : goal.invariant-loop-left

@@ -2,7 +2,6 @@
 -- Assumes nothing.
 use mathlib.Core.Path.{ap}
 use native.Mathlib.Omega.{arith}
-use borrow.Author.Rules.{rules}
 use Rattle.blocks.specs.Sealing.{blocks_before}
 use Rattle.padded_blocks.proofs.Counts.{seal-blocks}
 use Rattle.padded_blocks.proofs.seal_blocks.Goals as goal

@@ -3,7 +3,6 @@
 use mathlib.Core.Path.{ap, ap₂, ◌∙◌}
 use mathlib.Core.List.{[], ◌∷◌}
 use lib.ListN.{get_or}
-use borrow.Author.Rules.{rules}
 use Rattle.permutation.specs.State.{State}
 use Rattle.permutation.specs.Words.{Column, sum_words}
 use Rattle.permutation.proofs.Bounds.{words}

@@ -1,7 +1,6 @@
 -- `permutation::psi` meets its contract: each column is what `sbox_by_differences` ensures.
 -- Assumes nothing.
 use mathlib.Core.List.{[], ◌∷◌}
-use borrow.Author.Rules.{rules}
 use Rattle.permutation.specs.Permutation.{ψ}
 use Rattle.permutation.proofs.psi.Goals as goal
 

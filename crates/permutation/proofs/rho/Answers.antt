@@ -1,7 +1,6 @@
 -- `permutation::rho` meets its contract: each column is what `rotate_column` ensures, at the table's offsets.
 -- Assumes nothing.
 use mathlib.Core.List.{[], ◌∷◌}
-use borrow.Author.Rules.{rules}
 use Rattle.permutation.proofs.rho.Goals as goal
 
 pub returns : goal.returns

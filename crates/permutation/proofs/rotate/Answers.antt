@@ -1,7 +1,6 @@
 -- `permutation::rotate` meets its contract: the part of w above bit 64 - k and the part below change places.
 -- Assumes nothing.
 use native.Mathlib.Omega.{arith}
-use borrow.Author.Rules.{rules}
 use Rattle.permutation.proofs.Rotation.{rotated, rotated-none}
 use Rattle.permutation.proofs.rotate.Goals as goal
 

@@ -1,7 +1,6 @@
 -- `permutation::rotate_column` meets its contract: each word is what `rotate` ensures.
 -- Assumes nothing.
 use mathlib.Core.List.{[], ◌∷◌}
-use borrow.Author.Rules.{rules}
 use Rattle.permutation.proofs.rotate_column.Goals as goal
 
 pub returns : goal.returns

@@ -2,7 +2,6 @@
 -- Assumes nothing.
 use mathlib.Core.List.{[], ◌∷◌}
 use mathlib.Core.Path.{ap, ◌∙◌}
-use borrow.Author.Rules.{rules}
 use Rattle.permutation.specs.State.{State}
 use Rattle.permutation.specs.Permutation.{ρ, π, ψ, κ, R}
 use Rattle.permutation.proofs.round_at.Goals as goal

@@ -1,14 +1,8 @@
 -- `permutation::rounds` meets its contract. The loop's invariant: after i turns the state is P i of the state at the start.
 -- Assumes nothing.
-use mathlib.Core.Path.{◌≡◌, refl, sym, ap, ◌∙◌}
-use mathlib.Core.List.{List, []}
-use Prim.Native.Nat.{ℕ, ◌≤◌, ◌-◌}
-use native.Mathlib.Omega.{arith}
-use native.Mathlib.Numerals.{add-one}
-use lib.ListN.{get_or}
-use borrow.Author.Rules.{rules}
-use Rattle.permutation.specs.State.{State}
-use Rattle.permutation.specs.Permutation.{R, P}
+use mathlib.Core.Path.{◌≡◌}
+use Prim.Native.Nat.{◌≤◌, ◌-◌}
+use Rattle.permutation.specs.Permutation.{P}
 use Rattle.permutation.proofs.rounds.Given as goal
 
 abbrev pub invariant-loop-i : goal.invariant-loop-i

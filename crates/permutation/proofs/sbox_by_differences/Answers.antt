@@ -1,7 +1,7 @@
 -- `permutation::sbox_by_differences` meets its contract: by the differences of neighbours, which agree with the formula.
 -- Assumes nothing.
 use mir.Syntax.{w64}
-use borrow.Author.Rules.{elem_Fits, rules}
+use borrow.Author.Rules.{elem_Fits}
 use Rattle.permutation.proofs.SBox.{sbox-agrees}
 use Rattle.permutation.proofs.sbox_by_differences.Goals as goal
 

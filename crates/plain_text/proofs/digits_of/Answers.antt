@@ -1,10 +1,9 @@
 -- `plain_text::digits_of` meets its contract. The loop's invariant: what is left of the number, before the digits found, gives its text.
 -- Assumes nothing.
 use mathlib.Core.Path.{◌≡◌, refl, sym, ap, ◌∙◌}
-use Prim.Native.Nat.{ℕ, ◌≤◌}
+use Prim.Native.Nat.{ℕ}
 use native.Mathlib.Omega.{arith}
-use borrow.Author.Rules.{rules}
-use lib.ListN.{length, drop, length-set}
+use lib.ListN.{drop, length-set}
 use Rattle.plain_text.specs.Text.{decimal, digits_before}
 use Rattle.plain_text.proofs.Puts.{digit-last, digit-more}
 use Rattle.plain_text.proofs.digits_of.Goals as goal

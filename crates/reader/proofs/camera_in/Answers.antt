@@ -1,7 +1,6 @@
 -- `reader::camera_in` meets its contract.
 -- Assumes nothing.
 use native.Mathlib.Omega.{arith}
-use borrow.Author.Rules.{rules}
 use Rattle.burst.proofs.Rows.{camera-most, camera-below}
 use Rattle.reader.proofs.camera_in.Goals as goal
 

@@ -1,7 +1,6 @@
 -- `reader::edition_in` meets its contract.
 -- Assumes nothing.
 use mathlib.Core.Path.{ap, ◌∙◌}
-use borrow.Author.Rules.{rules}
 use Rattle.burst.specs.Editions.{numbered}
 use Rattle.reader.specs.declared.Header.{Header}
 use Rattle.reader.proofs.edition_in.Goals as goal

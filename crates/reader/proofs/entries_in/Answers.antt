@@ -1,11 +1,9 @@
 -- `reader::entries_in` meets its contract. The loop's invariant: the first i entries are read.
 -- Assumes nothing.
 use mathlib.Core.Path.{◌≡◌, refl, sym, ap, ◌∙◌}
-use Prim.Native.Nat.{ℕ, ◌+◌, ◌-◌, ◌*◌, ◌≤◌}
+use Prim.Native.Nat.{ℕ}
 use native.Mathlib.Omega.{arith}
-use borrow.Author.Rules.{rules}
-use lib.ListN.{length, take, length-set}
-use Rattle.burst.specs.Editions.{max_entries}
+use lib.ListN.{take, length-set}
 use Rattle.reader.specs.Front.{entry_at, entries_at}
 use Rattle.reader.proofs.Rules.{read-turn}
 use Rattle.reader.proofs.entries_in.Goals as goal

@@ -1,13 +1,10 @@
 -- `reader::entries_in` meets its contract. The loop's invariant: the first i entries are read.
 -- Assumes nothing.
-use mathlib.Core.Path.{◌≡◌, refl, sym, ap, ◌∙◌}
-use Prim.Native.Nat.{ℕ, ◌+◌, ◌-◌, ◌*◌, ◌≤◌}
-use native.Mathlib.Omega.{arith}
-use borrow.Author.Rules.{rules}
-use lib.ListN.{length, take, length-set}
+use mathlib.Core.Path.{◌≡◌}
+use Prim.Native.Nat.{◌+◌, ◌-◌, ◌*◌, ◌≤◌}
+use lib.ListN.{length, take}
 use Rattle.burst.specs.Editions.{max_entries}
-use Rattle.reader.specs.Front.{entry_at, entries_at}
-use Rattle.reader.proofs.Rules.{read-turn}
+use Rattle.reader.specs.Front.{entries_at}
 use Rattle.reader.proofs.entries_in.Given as goal
 
 abbrev pub invariant-loop-i : goal.invariant-loop-i

@@ -1,6 +1,5 @@
 -- `reader::entry_at` meets its contract.
 -- Assumes nothing.
-use borrow.Author.Rules.{rules}
 use Rattle.reader.proofs.Fields.{entry-same}
 use Rattle.reader.proofs.entry_at.Goals as goal
 

@@ -3,7 +3,6 @@
 use mathlib.Core.Path.{ap, ap₂, ◌∙◌}
 use Prim.Native.Nat.{ℕ}
 use native.Mathlib.Omega.{arith}
-use borrow.Author.Rules.{rules}
 use Rattle.bytes_le.specs.Bytes.{put_bytes}
 use Rattle.burst.specs.declared.Entry.{Entry}
 use Rattle.reader.specs.Reader.{record_part, agrees, mark_in, body_in, fetched_as}

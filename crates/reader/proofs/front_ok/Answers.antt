@@ -3,8 +3,6 @@
 use mathlib.Core.Bool.{true}
 use mathlib.Core.Path.{◌≡◌, sym, ◌∙◌}
 use native.Mathlib.Omega.{arith}
-use borrow.Author.Rules.{rules}
-use borrow.Author.Tests.{not-true, not-false}
 use Rattle.bytes_le.specs.Bytes.{Bytes}
 use Rattle.burst.proofs.Rules.{refuted, clash}
 use Rattle.reader.specs.Front.{front_rules}

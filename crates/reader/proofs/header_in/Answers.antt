@@ -1,6 +1,5 @@
 -- `reader::header_in` meets its contract.
 -- Assumes nothing.
-use borrow.Author.Rules.{rules}
 use Rattle.reader.proofs.Fields.{header-same}
 use Rattle.reader.proofs.header_in.Goals as goal
 

@@ -1,7 +1,6 @@
 -- `reader::index_ok` meets its contract.
 -- Assumes nothing.
 use mathlib.Core.Path.{ap, ◌∙◌}
-use borrow.Author.Rules.{rules}
 use Rattle.burst.specs.Index.{index_rules}
 use Rattle.reader.proofs.index_ok.Goals as goal
 

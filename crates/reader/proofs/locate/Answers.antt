@@ -3,7 +3,6 @@
 use mathlib.Core.Path.{◌≡◌, sym, ap, ◌∙◌}
 use Prim.Native.Nat.{ℕ, ◌+◌, ◌*◌}
 use native.Mathlib.Omega.{arith}
-use borrow.Author.Rules.{rules}
 use Rattle.reader.specs.declared.Header.{Header}
 use Rattle.burst.specs.Fields.{entry_length}
 use Rattle.reader.proofs.Answers.{accepted, checked-refusal, checked-mark, checked-kept, locate-check, locate-13, locate-0}

@@ -4,7 +4,6 @@ use mathlib.Core.List.{append-nil}
 use mathlib.Core.Path.{◌≡◌, sym, ap, ◌∙◌}
 use Prim.Native.Nat.{◌+◌}
 use native.Mathlib.Omega.{arith}
-use borrow.Author.Rules.{rules}
 use lib.ListN.{length, take, drop}
 use Rattle.burst.specs.declared.Entry.{Entry}
 use Rattle.burst.specs.Parts.{seal_length}

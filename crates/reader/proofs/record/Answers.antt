@@ -4,7 +4,6 @@ use mathlib.Core.Path.{◌≡◌, refl, sym, ap, ◌∙◌}
 use Prim.Native.Nat.{ℕ, ◌+◌, ◌-◌}
 use native.Mathlib.Omega.{arith}
 use native.Mathlib.Nat.{add_comm, add-zero}
-use borrow.Author.Rules.{rules}
 use lib.ListN.{take, drop}
 use Rattle.burst.specs.declared.Entry.{Entry}
 use Rattle.reader.proofs.Answers.{located-refusal, located-mark, located-found, located-position, located-entry, record-refused, record-done}

@@ -3,7 +3,6 @@
 use mathlib.Core.List.{append-nil}
 use mathlib.Core.Path.{ap, ◌∙◌}
 use native.Mathlib.Omega.{arith}
-use borrow.Author.Rules.{rules}
 use Rattle.burst.specs.declared.Entry.{Entry}
 use Rattle.reader.specs.Reader.{record_part}
 use Rattle.reader.proofs.Opens.{lent, tag-told, record-answer}

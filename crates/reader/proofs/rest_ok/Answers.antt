@@ -1,7 +1,6 @@
 -- `reader::rest_ok` meets its contract: the camera number, then the zeros.
 -- Assumes nothing.
 use mathlib.Core.Path.{◌≡◌, sym, ap, ◌∙◌}
-use borrow.Author.Rules.{rules}
 use Rattle.burst.specs.Editions.{no_camera}
 use Rattle.reader.specs.Front.{camera_of, rest_rules}
 use Rattle.reader.proofs.rest_ok.Goals as goal

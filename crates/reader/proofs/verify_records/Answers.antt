@@ -1,9 +1,8 @@
 -- `reader::verify_records` meets its contract. The loop's invariant: the verdict on all records is that on the records that are left.
 -- Assumes nothing.
 use mathlib.Core.Path.{◌≡◌, refl, sym, ap, ◌∙◌}
-use Prim.Native.Nat.{ℕ, suc, ◌+◌, ◌-◌, ◌*◌, ◌≤◌}
+use Prim.Native.Nat.{ℕ, suc, ◌-◌}
 use native.Mathlib.Omega.{arith}
-use borrow.Author.Tests.{not-true, not-false}
 use Rattle.burst.specs.declared.Entry.{Entry}
 use Rattle.reader.specs.declared.Verdict.TheVariants.{Differs}
 use Rattle.reader.specs.Reader.{record_parts, verdict_on}

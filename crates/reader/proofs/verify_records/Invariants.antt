@@ -1,14 +1,8 @@
 -- `reader::verify_records` meets its contract. The loop's invariant: the verdict on all records is that on the records that are left.
 -- Assumes nothing.
-use mathlib.Core.Path.{◌≡◌, refl, sym, ap, ◌∙◌}
-use Prim.Native.Nat.{ℕ, suc, ◌+◌, ◌-◌, ◌*◌, ◌≤◌}
-use native.Mathlib.Omega.{arith}
-use borrow.Author.Tests.{not-true, not-false}
-use Rattle.burst.specs.declared.Entry.{Entry}
-use Rattle.reader.specs.declared.Verdict.TheVariants.{Differs}
+use mathlib.Core.Path.{◌≡◌}
+use Prim.Native.Nat.{◌+◌, ◌-◌, ◌*◌, ◌≤◌}
 use Rattle.reader.specs.Reader.{record_parts, verdict_on}
-use Rattle.reader.proofs.Rules.{front, in-range-at}
-use Rattle.reader.proofs.Parts.{parts-end, parts_next, parts-differ}
 use Rattle.reader.proofs.verify_records.Given as goal
 
 abbrev pub invariant-loop-left : goal.invariant-loop-left

@@ -1,11 +1,7 @@
 -- `reader::zeros_ok` meets its contract. The loop's invariant: the test comes to that of the bytes from i on.
 -- Assumes nothing.
-use mathlib.Core.Path.{◌≡◌, refl, sym, ◌∙◌}
-use Prim.Native.Nat.{◌-◌}
+use mathlib.Core.Path.{refl, sym, ◌∙◌}
 use native.Mathlib.Omega.{arith}
-use borrow.Author.Rules.{rules}
-use lib.ListN.{take, drop}
-use Rattle.reader.specs.Front.{all_zero}
 use Rattle.reader.proofs.Rules.{byte-zero, byte-not, bytes-end}
 use Rattle.reader.proofs.zeros_ok.Goals as goal
 

@@ -1,12 +1,9 @@
 -- `reader::zeros_ok` meets its contract. The loop's invariant: the test comes to that of the bytes from i on.
 -- Assumes nothing.
-use mathlib.Core.Path.{◌≡◌, refl, sym, ◌∙◌}
+use mathlib.Core.Path.{◌≡◌}
 use Prim.Native.Nat.{◌-◌}
-use native.Mathlib.Omega.{arith}
-use borrow.Author.Rules.{rules}
 use lib.ListN.{take, drop}
 use Rattle.reader.specs.Front.{all_zero}
-use Rattle.reader.proofs.Rules.{byte-zero, byte-not, bytes-end}
 use Rattle.reader.proofs.zeros_ok.Given as goal
 
 abbrev pub invariant-loop-i : goal.invariant-loop-i

@@ -2,7 +2,6 @@
 -- Assumes nothing.
 use mathlib.Core.Path.{sym, ◌∙◌}
 use native.Mathlib.Omega.{arith}
-use borrow.Author.Rules.{rules}
 use Rattle.replay.proofs.Scripts.{end-here, drop_here, close-here, other-here}
 use Rattle.replay.proofs.perform.Goals as goal
 

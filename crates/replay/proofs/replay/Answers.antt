@@ -3,7 +3,6 @@
 use mathlib.Core.Path.{refl, ap}
 use Prim.Native.Nat.{◌-◌, ◌/◌}
 use native.Mathlib.Omega.{arith}
-use borrow.Author.Rules.{rules}
 use lib.ListN.{length, take, drop, length-drop}
 use lib.Seq.{take_all}
 use Rattle.replay.specs.declared.Performed.{Performed}

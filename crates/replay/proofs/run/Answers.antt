@@ -1,15 +1,14 @@
 -- `replay::run` meets its contract. The loop's invariant: the calls that are left, performed from here, leave what all calls leave from the start.
 -- Assumes nothing.
 use mathlib.Core.Path.{◌≡◌, refl, ap, ◌∙◌}
-use Prim.Native.Nat.{ℕ, suc, ◌+◌, ◌-◌, ◌≤◌}
+use Prim.Native.Nat.{ℕ, suc, ◌+◌, ◌-◌}
 use native.Mathlib.Omega.{arith}
-use borrow.Author.Rules.{rules}
 use borrow.Author.Tests.{not-true, not-false}
-use lib.ListN.{length, drop, length-drop}
+use lib.ListN.{drop, length-drop}
 use Rattle.replay.specs.declared.Step.{Step}
 use Rattle.replay.specs.Replay.{script_calls, script_rest, step_of, step_buffer}
 use Rattle.replay.proofs.Scripts.{stops, goes, first_fits, left-none, left-some, rest-none, rest_some}
-use Rattle.replay.proofs.Turns.{Left, all_left, none_left, turned}
+use Rattle.replay.proofs.Turns.{all_left, none_left, turned}
 use Rattle.replay.proofs.run.Goals as goal
 
 pub loop-i-init : goal.loop-i-init

@@ -1,15 +1,9 @@
 -- `replay::run` meets its contract. The loop's invariant: the calls that are left, performed from here, leave what all calls leave from the start.
 -- Assumes nothing.
-use mathlib.Core.Path.{◌≡◌, refl, ap, ◌∙◌}
-use Prim.Native.Nat.{ℕ, suc, ◌+◌, ◌-◌, ◌≤◌}
-use native.Mathlib.Omega.{arith}
-use borrow.Author.Rules.{rules}
-use borrow.Author.Tests.{not-true, not-false}
-use lib.ListN.{length, drop, length-drop}
-use Rattle.replay.specs.declared.Step.{Step}
-use Rattle.replay.specs.Replay.{script_calls, script_rest, step_of, step_buffer}
-use Rattle.replay.proofs.Scripts.{stops, goes, first_fits, left-none, left-some, rest-none, rest_some}
-use Rattle.replay.proofs.Turns.{Left, all_left, none_left, turned}
+use mathlib.Core.Path.{◌≡◌}
+use Prim.Native.Nat.{◌-◌, ◌≤◌}
+use lib.ListN.{length}
+use Rattle.replay.proofs.Turns.{Left}
 use Rattle.replay.proofs.run.Given as goal
 
 abbrev pub invariant-loop-i : goal.invariant-loop-i

@@ -2,7 +2,6 @@
 -- Assumes nothing.
 use mathlib.Core.Path.{sym, ◌∙◌}
 use native.Mathlib.Omega.{arith}
-use borrow.Author.Rules.{rules}
 use Rattle.round_log.proofs.Lengths.{verdict-judged, verdict-refused}
 use Rattle.round_log.proofs.check_log.Goals as goal
 

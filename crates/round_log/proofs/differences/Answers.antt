@@ -1,6 +1,5 @@
 -- `round_log::differences` meets its contract: word by word.
 -- Assumes nothing.
-use borrow.Author.Rules.{rules}
 use Rattle.round_log.proofs.Same.{columns-same}
 use Rattle.round_log.proofs.differences.Goals as goal
 

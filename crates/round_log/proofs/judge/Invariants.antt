@@ -1,14 +1,8 @@
 -- `round_log::judge` meets its contract. The loop's invariant: the verdict on the rounds from i on is the verdict on all.
 -- Assumes nothing.
-use mathlib.Core.Path.{◌≡◌, sym, ap, ap₂, ◌∙◌}
-use mathlib.Core.Bool.{Bool, true, false, cond}
-use Prim.Native.Nat.{◌+◌, ◌-◌, ◌≤◌}
-use native.Mathlib.Omega.{arith}
-use borrow.Author.Rules.{rules}
-use borrow.Author.Tests.{not-true, not-false}
+use mathlib.Core.Path.{◌≡◌}
+use Prim.Native.Nat.{◌-◌, ◌≤◌}
 use Rattle.round_log.specs.RoundLog.{judged}
-use Rattle.round_log.specs.declared.Verdict.TheVariants.{Differs}
-use Rattle.round_log.proofs.Judging.{judged-by}
 use Rattle.round_log.proofs.judge.Given as goal
 
 abbrev pub invariant-loop-i : goal.invariant-loop-i

@@ -1,6 +1,5 @@
 -- `round_log::same_state` meets its contract: column by column.
 -- Assumes nothing.
-use borrow.Author.Rules.{rules}
 use Rattle.round_log.proofs.Same.{states-same}
 use Rattle.round_log.proofs.same_state.Goals as goal
 

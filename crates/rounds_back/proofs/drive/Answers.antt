@@ -2,7 +2,6 @@
 -- Assumes nothing.
 use mathlib.Core.Path.{sym, ap, ◌∙◌}
 use native.Mathlib.Omega.{arith}
-use borrow.Author.Rules.{rules}
 use Rattle.rounds_back.specs.Driven.{driven_to}
 use Rattle.rounds_back.proofs.Answers.{driven-within, driven-above}
 use Rattle.rounds_back.proofs.drive.Goals as goal

@@ -2,7 +2,6 @@
 -- Assumes nothing.
 use mathlib.Core.Path.{◌∙◌}
 use mathlib.Core.List.{[], ◌∷◌}
-use borrow.Author.Rules.{rules}
 use Rattle.permutation.specs.Words.{sum_words}
 use Rattle.permutation.proofs.Bounds.{words}
 use Rattle.rounds_back.proofs.InverseMatrix.{mu-back-agrees}

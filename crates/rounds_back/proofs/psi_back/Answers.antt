@@ -1,7 +1,6 @@
 -- `rounds_back::psi_back` meets its contract: each column is what `sbox_back` ensures.
 -- Assumes nothing.
 use mathlib.Core.List.{[], ◌∷◌}
-use borrow.Author.Rules.{rules}
 use Rattle.rounds_back.specs.Inverse.{ψ⁻¹}
 use Rattle.rounds_back.proofs.psi_back.Goals as goal
 

@@ -3,7 +3,6 @@
 use mathlib.Core.Path.{◌≡◌, ap, ◌∙◌}
 use lib.ListN.{length, replicate}
 use native.Mathlib.Omega.{arith}
-use borrow.Author.Rules.{rules}
 use Rattle.bytes_le.specs.Bytes.{Bytes}
 use Rattle.bytes_le.proofs.Laws.{put_whole}
 use Rattle.permutation.specs.State.{State}

@@ -3,7 +3,6 @@
 use mathlib.Core.List.{[], ◌∷◌}
 use mathlib.Core.Path.{ap, ◌∙◌}
 use Prim.Native.Nat.{ℕ}
-use borrow.Author.Rules.{rules}
 use Rattle.permutation.specs.State.{State, at, set_word}
 use Rattle.rounds_back.specs.Inverse.{ρ⁻¹}
 use Rattle.rounds_back.proofs.Turning.{whole-circle}

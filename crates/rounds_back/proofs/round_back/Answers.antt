@@ -1,7 +1,6 @@
 -- `rounds_back::round_back` meets its contract: each statement undoes one step.
 -- Assumes nothing.
 use mathlib.Core.Path.{ap, ◌∙◌}
-use borrow.Author.Rules.{rules}
 use Rattle.rounds_back.specs.Inverse.{μ⁻¹, ρ⁻¹, π⁻¹, ψ⁻¹, R⁻¹}
 use Rattle.rounds_back.proofs.round_back.Goals as goal
 

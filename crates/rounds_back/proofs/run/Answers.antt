@@ -1,7 +1,6 @@
 -- `rounds_back::run` meets its contract: one case for each direction.
 -- Assumes nothing.
 use mathlib.Core.Path.{sym, ap, ◌∙◌}
-use borrow.Author.Rules.{rules}
 use Rattle.rounds_back.specs.Driven.{ran}
 use Rattle.rounds_back.specs.declared.Direction.{Direction}
 use Rattle.rounds_back.proofs.run.Goals as goal

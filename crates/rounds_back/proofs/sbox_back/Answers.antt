@@ -1,7 +1,7 @@
 -- `rounds_back::sbox_back` meets its contract: its words agree with the formula.
 -- Assumes nothing.
 use mir.Syntax.{w64}
-use borrow.Author.Rules.{elem_Fits, rules}
+use borrow.Author.Rules.{elem_Fits}
 use Rattle.rounds_back.proofs.InverseSBox.{sbox-back-agrees}
 use Rattle.rounds_back.proofs.sbox_back.Goals as goal
 

@@ -1,7 +1,6 @@
 -- `sizing::card_number` meets its contract.
 -- Assumes nothing.
 use native.Mathlib.Omega.{arith}
-use borrow.Author.Rules.{rules}
 use Rattle.sizing.proofs.Cards.{card-16, card-16', card-10, card-10', card-0}
 use Rattle.sizing.proofs.card_number.Goals as goal
 

@@ -2,7 +2,6 @@
 -- Assumes nothing.
 use Prim.Native.Nat.{◌+◌, ◌*◌, ◌≤◌}
 use native.Mathlib.Omega.{arith}
-use borrow.Author.Rules.{rules}
 use Rattle.burst.specs.Editions.{max_entries, max_header}
 use Rattle.burst.specs.Parts.{seal_length}
 use Rattle.burst.specs.Layout.{max_index}

@@ -1,9 +1,8 @@
 -- `sizing::size_number` meets its contract. The loop's invariant: whether a length is too long is whether one from i on is.
 -- Assumes nothing.
-use mathlib.Core.Path.{◌≡◌, refl, sym, ap, ◌∙◌}
-use Prim.Native.Nat.{◌-◌, ◌≤◌}
+use mathlib.Core.Path.{refl, sym, ap, ◌∙◌}
 use native.Mathlib.Omega.{arith}
-use lib.ListN.{length, drop, drop_of_length-le}
+use lib.ListN.{drop_of_length-le}
 use Rattle.sizing.specs.Sizing.{too_long}
 use Rattle.sizing.proofs.Numbers.{long-here, long-later, size-9, size-10, size-0}
 use Rattle.sizing.proofs.size_number.Goals as goal

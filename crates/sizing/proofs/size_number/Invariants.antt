@@ -1,11 +1,9 @@
 -- `sizing::size_number` meets its contract. The loop's invariant: whether a length is too long is whether one from i on is.
 -- Assumes nothing.
-use mathlib.Core.Path.{◌≡◌, refl, sym, ap, ◌∙◌}
+use mathlib.Core.Path.{◌≡◌}
 use Prim.Native.Nat.{◌-◌, ◌≤◌}
-use native.Mathlib.Omega.{arith}
-use lib.ListN.{length, drop, drop_of_length-le}
+use lib.ListN.{length, drop}
 use Rattle.sizing.specs.Sizing.{too_long}
-use Rattle.sizing.proofs.Numbers.{long-here, long-later, size-9, size-10, size-0}
 use Rattle.sizing.proofs.size_number.Given as goal
 
 abbrev pub invariant-loop-i : goal.invariant-loop-i

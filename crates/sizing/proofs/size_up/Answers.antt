@@ -3,7 +3,6 @@
 use mathlib.Core.Path.{◌≡◌, sym, ap, ◌∙◌}
 use Prim.Native.Nat.{ℕ, ◌+◌}
 use native.Mathlib.Omega.{arith}
-use borrow.Author.Rules.{rules}
 use Rattle.sizing.proofs.Numbers.{sized}
 use Rattle.sizing.proofs.Plans.{After60, after-60, answer, size-refused, size-done}
 use Rattle.sizing.proofs.size_up.Goals as goal

@@ -1,11 +1,9 @@
 -- `sizing::sums_of` meets its contract. The loop's invariant: the shots from i on, added to the sums of those before, make the sums of all.
 -- Assumes nothing.
 use mathlib.Core.Path.{◌≡◌, refl, sym, ap, subst, ◌∙◌}
-use mathlib.Core.Bool.{false}
-use Prim.Native.Nat.{ℕ, ◌+◌, ◌-◌, ◌≤◌}
+use Prim.Native.Nat.{ℕ, ◌+◌}
 use native.Mathlib.Omega.{arith}
 use lib.ListN.{length, drop}
-use Rattle.sizing.specs.Sizing.{too_long}
 use Rattle.sizing.specs.declared.Sums.{Sums}
 use Rattle.sizing.specs.Sums.{with_shots, After}
 use Rattle.sizing.proofs.Numbers.{short-here}

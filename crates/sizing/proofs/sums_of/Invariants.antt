@@ -1,15 +1,11 @@
 -- `sizing::sums_of` meets its contract. The loop's invariant: the shots from i on, added to the sums of those before, make the sums of all.
 -- Assumes nothing.
-use mathlib.Core.Path.{◌≡◌, refl, sym, ap, subst, ◌∙◌}
+use mathlib.Core.Path.{◌≡◌}
 use mathlib.Core.Bool.{false}
-use Prim.Native.Nat.{ℕ, ◌+◌, ◌-◌, ◌≤◌}
-use native.Mathlib.Omega.{arith}
+use Prim.Native.Nat.{◌-◌, ◌≤◌}
 use lib.ListN.{length, drop}
 use Rattle.sizing.specs.Sizing.{too_long}
-use Rattle.sizing.specs.declared.Sums.{Sums}
 use Rattle.sizing.specs.Sums.{with_shots, After}
-use Rattle.sizing.proofs.Numbers.{short-here}
-use Rattle.sizing.proofs.Plans.{shots-turn, shots-end}
 use Rattle.sizing.proofs.sums_of.Given as goal
 
 abbrev pub invariant-loop-i : goal.invariant-loop-i

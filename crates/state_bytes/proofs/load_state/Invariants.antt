@@ -1,15 +1,10 @@
 -- `state_bytes::load_state` meets its contract. The loop's invariant: the first w words have their bytes from b.
 -- Assumes nothing.
-use mathlib.Core.Path.{◌≡◌, ◌∙◌}
+use mathlib.Core.Path.{◌≡◌}
 use Prim.Native.Nat.{◌-◌, ◌*◌, ◌≤◌}
-use native.Mathlib.Omega.{arith}
-use lib.ListN.{length, take}
-use lib.Seq.{length-take-le}
+use lib.ListN.{take}
 use Rattle.bytes_le.specs.Bytes.{put_bytes}
-use Rattle.bytes_le.proofs.Laws.{put-none, put_whole}
-use Rattle.state_bytes.specs.StateBytes.{bytes_of, state_length, state_words}
-use Rattle.state_bytes.proofs.Lengths.{length-bytes}
-use Rattle.state_bytes.proofs.Turns.{eight-more}
+use Rattle.state_bytes.specs.StateBytes.{bytes_of, state_words}
 use Rattle.state_bytes.proofs.load_state.Given as goal
 
 abbrev pub invariant-loop-w : goal.invariant-loop-w

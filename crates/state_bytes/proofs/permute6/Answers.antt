@@ -1,7 +1,6 @@
 -- `state_bytes::permute6` meets its contract: the rounds on words are the rounds on bytes.
 -- Assumes nothing.
 use mathlib.Core.Path.{ap, ◌∙◌}
-use borrow.Author.Rules.{rules}
 use Rattle.state_bytes.specs.StateBytes.{bytes_of}
 use Rattle.state_bytes.proofs.View.{permuted-bytes}
 use Rattle.state_bytes.proofs.permute6.Goals as goal

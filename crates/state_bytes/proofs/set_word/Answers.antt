@@ -1,6 +1,5 @@
 -- `state_bytes::set_word` meets its contract: a word changes, and eight bytes change.
 -- Assumes nothing.
-use borrow.Author.Rules.{rules}
 use Rattle.state_bytes.proofs.Words.{bytes-set-word}
 use Rattle.state_bytes.proofs.set_word.Goals as goal
 

@@ -1,9 +1,8 @@
 -- `state_bytes::store_state` meets its contract. The loop's invariant: the bytes of the first w words are put.
 -- Assumes nothing.
 use mathlib.Core.Path.{◌≡◌, refl, ap, ◌∙◌}
-use Prim.Native.Nat.{◌-◌, ◌*◌, ◌≤◌}
 use native.Mathlib.Omega.{arith}
-use lib.ListN.{length, take}
+use lib.ListN.{length}
 use lib.Seq.{take_all}
 use Rattle.bytes_le.specs.Bytes.{put_bytes}
 use Rattle.bytes_le.proofs.Laws.{put-none}

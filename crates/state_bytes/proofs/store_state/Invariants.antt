@@ -1,15 +1,10 @@
 -- `state_bytes::store_state` meets its contract. The loop's invariant: the bytes of the first w words are put.
 -- Assumes nothing.
-use mathlib.Core.Path.{◌≡◌, refl, ap, ◌∙◌}
+use mathlib.Core.Path.{◌≡◌}
 use Prim.Native.Nat.{◌-◌, ◌*◌, ◌≤◌}
-use native.Mathlib.Omega.{arith}
 use lib.ListN.{length, take}
-use lib.Seq.{take_all}
 use Rattle.bytes_le.specs.Bytes.{put_bytes}
-use Rattle.bytes_le.proofs.Laws.{put-none}
-use Rattle.state_bytes.specs.StateBytes.{bytes_of, state_length, state_words}
-use Rattle.state_bytes.proofs.Lengths.{length-bytes}
-use Rattle.state_bytes.proofs.Turns.{eight-more}
+use Rattle.state_bytes.specs.StateBytes.{bytes_of, state_words}
 use Rattle.state_bytes.proofs.store_state.Given as goal
 
 abbrev pub invariant-loop-w : goal.invariant-loop-w

@@ -1,7 +1,6 @@
 -- `state_bytes::word` meets its contract: the bytes of a word.
 -- Assumes nothing.
 use mathlib.Core.Path.{sym}
-use borrow.Author.Rules.{rules}
 use Rattle.state_bytes.proofs.Words.{bytes_word}
 use Rattle.state_bytes.proofs.word.Goals as goal
 

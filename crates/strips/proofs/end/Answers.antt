@@ -3,8 +3,7 @@
 use mathlib.Core.Path.{◌≡◌, sym, ap, ◌∙◌}
 use Prim.Native.Nat.{ℕ}
 use native.Mathlib.Omega.{arith}
-use borrow.Author.Rules.{rules}
-use lib.ListN.{length, length-map}
+use lib.ListN.{length}
 use Rattle.bytes_le.specs.Bytes.{Bytes, put_bytes}
 use Rattle.blocks.specs.Sealing.{tag}
 use Rattle.strips.specs.Machine.{held, ended}

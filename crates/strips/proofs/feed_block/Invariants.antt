@@ -1,17 +1,10 @@
 -- `strips::feed_block` meets its contract. The loop's invariant: the first j bytes are put, and b holds them.
 -- Assumes nothing.
-use mathlib.Core.Path.{◌≡◌, refl, sym, ap, ◌∙◌}
-use Prim.Native.Nat.{ℕ, ◌+◌, ◌-◌, ◌<◌, ◌≤◌}
-use native.Mathlib.Nat.{add-zero}
-use native.Mathlib.Omega.{arith}
-use lib.Bits.{bit_xor}
-use lib.ListN.{length, take, get_or, set, length-set}
-use lib.Seq.{length-take-le}
-use Rattle.bytes_le.specs.Bytes.{Bytes, put_bytes}
-use Rattle.bytes_le.proofs.Laws.{put-none, put-snoc}
+use mathlib.Core.Path.{◌≡◌}
+use Prim.Native.Nat.{◌+◌, ◌-◌, ◌≤◌}
+use lib.ListN.{length, take}
+use Rattle.bytes_le.specs.Bytes.{put_bytes}
 use Rattle.strips.specs.Machine.{held, fed, fed_bytes}
-use Rattle.strips.proofs.Machine.{length-fed}
-use Rattle.strips.proofs.Turns.{byte-fed, byte-out}
 use Rattle.strips.proofs.feed_block.Given as goal
 
 abbrev pub invariant-loop-j : goal.invariant-loop-j

@@ -1,14 +1,11 @@
 -- `strips::feed_blocks` meets its contract. The loop's invariant: what is left gives, from here on, what the whole was to give.
 -- Assumes nothing.
-use mathlib.Core.Path.{◌≡◌, refl, ap, ◌∙◌}
-use Prim.Native.Nat.{◌-◌, ◌≤◌}
+use mathlib.Core.Path.{refl, ap, ◌∙◌}
 use native.Mathlib.Omega.{arith}
 use borrow.Author.Rules.{rules}
-use lib.ListN.{length, drop}
-use Rattle.bytes_le.specs.Bytes.{put_bytes}
 use Rattle.state_bytes.specs.StateBytes.{bytes_of}
 use Rattle.state_bytes.proofs.Lengths.{length-bytes}
-use Rattle.strips.specs.Machine.{Held, held, fed, fed_bytes}
+use Rattle.strips.specs.Machine.{Held}
 use Rattle.strips.proofs.Turns.{block-fed, block-put}
 use Rattle.strips.proofs.feed_blocks.Goals as goal
 

@@ -2,7 +2,6 @@
 -- Assumes nothing.
 use mathlib.Core.Path.{refl, sym, ◌∙◌}
 use native.Mathlib.Omega.{arith}
-use borrow.Author.Rules.{rules}
 use Rattle.state_bytes.proofs.Lengths.{length-bytes}
 use Rattle.icepole.specs.declared.Variant.TheVariants.{Icepole128}
 use Rattle.icepole.proofs.Bounds.{bounded-by}

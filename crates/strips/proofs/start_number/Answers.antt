@@ -1,9 +1,7 @@
 -- `strips::start_number` meets its contract: by the number of sealing no message, whichever arm set the room.
 -- Assumes nothing.
-use mathlib.Core.Logic.{⊎_elim}
 use mathlib.Core.Path.{◌∙◌}
 use native.Mathlib.Omega.{arith}
-use borrow.Author.Rules.{rules}
 use Rattle.icepole.specs.declared.Variant.TheVariants.{Icepole128}
 use Rattle.icepole.specs.Variants.{sizes}
 use Rattle.strips.proofs.Numbers.{start-all, start-cut}

@@ -2,8 +2,6 @@
 -- Assumes nothing.
 use mathlib.Core.Path.{sym, ◌∙◌}
 use native.Mathlib.Omega.{arith}
-use borrow.Author.Rules.{rules}
-use lib.ListN.{length-map}
 use Rattle.strips.proofs.Answers.{changed, kept, strip-done, strip-refused}
 use Rattle.strips.proofs.Numbers.{strip-fits}
 use Rattle.strips.proofs.strip.Goals as goal

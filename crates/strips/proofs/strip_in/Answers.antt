@@ -2,7 +2,6 @@
 -- Assumes nothing.
 use mathlib.Core.Path.{sym, ap, ◌∙◌}
 use Prim.Native.Nat.{ℕ}
-use borrow.Author.Rules.{rules}
 use Rattle.bytes_le.specs.Bytes.{put_bytes}
 use Rattle.strips.specs.Machine.{held, fed, fed_bytes}
 use Rattle.strips.proofs.Answers.{kept}
