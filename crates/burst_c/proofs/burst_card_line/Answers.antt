@@ -1,7 +1,6 @@
 -- `burst_c::burst_card_line` meets its contract.
 -- Assumes nothing.
 use mathlib.Core.Path.{ap}
-use borrow.Author.Rules.{rules}
 use Rattle.sizing.specs.declared.CardLine.{CardLine}
 use Rattle.burst_c.proofs.burst_card_line.Goals as goal
 

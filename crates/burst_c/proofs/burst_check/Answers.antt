@@ -1,7 +1,6 @@
 -- `burst_c::burst_check` meets its contract.
 -- Assumes nothing.
 use native.Mathlib.Omega.{arith}
-use borrow.Author.Rules.{rules}
 use Rattle.reader.proofs.Answers.{checked-mark}
 use Rattle.burst_c.proofs.Returned.{check-refused, check-short, check_done}
 use Rattle.burst_c.proofs.burst_check.Goals as goal

@@ -2,7 +2,6 @@
 -- Assumes nothing.
 use mathlib.Core.Path.{sym, ◌∙◌}
 use native.Mathlib.Omega.{arith}
-use borrow.Author.Rules.{rules}
 use Rattle.reader.proofs.Answers.{located-refusal, located-mark, fetched-mark}
 use Rattle.burst_c.proofs.Places.{at-located, at-fetched, at-output}
 use Rattle.burst_c.proofs.Returned.{fetch-located, fetch-short, fetch-refused, fetch-done}

@@ -2,7 +2,6 @@
 -- Assumes nothing.
 use mathlib.Core.Path.{ap}
 use native.Mathlib.Omega.{arith}
-use borrow.Author.Rules.{rules}
 use Rattle.listing.specs.declared.Listed.{Listed}
 use Rattle.listing.proofs.Lines.{told-length, told-refusal}
 use Rattle.burst_c.proofs.burst_list.Goals as goal

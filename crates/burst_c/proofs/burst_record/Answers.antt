@@ -3,7 +3,6 @@
 use mathlib.Core.Path.{◌≡◌, sym, ap, ◌∙◌}
 use Prim.Native.Nat.{◌+◌}
 use native.Mathlib.Omega.{arith}
-use borrow.Author.Rules.{rules}
 use Rattle.burst.specs.declared.Entry.{Entry}
 use Rattle.reader.specs.Reader.{locate_answer}
 use Rattle.reader.proofs.Answers.{located-refusal, located-mark, located-found, located-position, located-entry, record-done}

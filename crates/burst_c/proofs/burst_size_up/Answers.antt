@@ -1,7 +1,6 @@
 -- `burst_c::burst_size_up` meets its contract.
 -- Assumes nothing.
 use mathlib.Core.Path.{ap}
-use borrow.Author.Rules.{rules}
 use Rattle.sizing.specs.declared.Size.{Size}
 use Rattle.burst_c.proofs.burst_size_up.Goals as goal
 

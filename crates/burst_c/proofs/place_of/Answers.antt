@@ -1,7 +1,6 @@
 -- `burst_c::place_of` meets its contract.
 -- Assumes nothing.
 use mathlib.Core.Path.{sym}
-use borrow.Author.Rules.{rules}
 use borrow.Author.Tests.{le-ltb, lt-ltb}
 use Rattle.burst_c.proofs.place_of.Goals as goal
 

@@ -3,8 +3,7 @@
 use mathlib.Core.Path.{◌≡◌, sym}
 use Prim.Native.Nat.{ℕ, ◌≤◌}
 use native.Mathlib.Omega.{arith}
-use borrow.Author.Rules.{rules}
-use lib.ListN.{length, length-map}
+use lib.ListN.{length}
 use Rattle.bytes_le.specs.Bytes.{Bytes}
 use Rattle.burst.specs.Parts.{mark_length}
 use Rattle.burst_c.specs.Calls.{fetch_info_length}

@@ -1,7 +1,6 @@
 -- `core_c::icepole_check_log` meets its contract: the three numbers of each verdict.
 -- Assumes nothing.
 use mathlib.Core.Path.{sym, ap, ◌∙◌}
-use borrow.Author.Rules.{rules}
 use Rattle.core_c.specs.Calls.{call_refusal, call_agrees, call_round}
 use Rattle.core_c.proofs.icepole_check_log.Goals as goal
 

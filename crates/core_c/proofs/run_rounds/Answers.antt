@@ -4,7 +4,6 @@ use mathlib.Core.Path.{◌≡◌, refl, sym, ap, ◌∙◌}
 use native.Mathlib.Omega.{arith}
 use Prim.Native.Nat.{◌≤◌}
 use lib.ListN.{length}
-use borrow.Author.Rules.{rules}
 use Rattle.permutation.specs.Permutation.{max_rounds}
 use Rattle.bytes_le.specs.Bytes.{put_bytes}
 use Rattle.state_bytes.specs.StateBytes.{bytes_of, state_length}

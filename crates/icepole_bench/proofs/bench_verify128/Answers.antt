@@ -1,7 +1,6 @@
 -- `icepole_bench::bench_verify128` meets its contract: the number is that of the answer.
 -- Assumes nothing.
 use mathlib.Core.Path.{ap}
-use borrow.Author.Rules.{rules}
 use Rattle.icepole.specs.declared.Opened.{Opened}
 use Rattle.icepole.specs.Answers.{open_answer}
 use Rattle.icepole_bench.proofs.bench_verify128.Goals as goal

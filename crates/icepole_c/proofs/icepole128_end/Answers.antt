@@ -1,6 +1,5 @@
 -- `icepole_c::icepole128_end` meets its contract: by what end answers, where the state is long enough.
 -- Assumes nothing.
-use borrow.Author.Rules.{rules}
 use Rattle.icepole_c.proofs.StripCalls.{end-done, end_refused, end_short}
 use Rattle.icepole_c.proofs.icepole128_end.Goals as goal
 

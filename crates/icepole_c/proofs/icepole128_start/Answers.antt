@@ -1,7 +1,6 @@
 -- `icepole_c::icepole128_start` meets its contract: by what start answers, where the state is long enough.
 -- Assumes nothing.
 use mathlib.Core.List.{◌++◌}
-use borrow.Author.Rules.{rules}
 use Rattle.strips.proofs.Answers.{start-number-of}
 use Rattle.icepole_c.proofs.StripCalls.{start-called, start-short, start-short-refused}
 use Rattle.icepole_c.proofs.icepole128_start.Goals as goal

@@ -2,7 +2,6 @@
 -- Assumes nothing.
 use mathlib.Core.Path.{refl, sym, ◌∙◌}
 use native.Mathlib.Omega.{arith}
-use borrow.Author.Rules.{rules}
 use lib.Seq.{length-take-le}
 use Rattle.strips.proofs.Numbers.{strip-fits}
 use Rattle.icepole_c.proofs.StripCalls.{strip-done, strip-refused, strip-short}

@@ -2,7 +2,6 @@
 -- Assumes nothing.
 use mathlib.Core.List.{◌++◌}
 use native.Mathlib.Omega.{arith}
-use borrow.Author.Rules.{rules}
 use Rattle.blocks.specs.Bounds.{Bounded}
 use Rattle.icepole.proofs.Bounds.{bounded-by}
 use Rattle.icepole_c.proofs.Returned.{long-call, short-call}

@@ -4,7 +4,6 @@ use mathlib.Core.Path.{sym, ap, ◌∙◌}
 use mathlib.Core.Bool.{Bool}
 use mathlib.Core.List.{◌++◌}
 use native.Mathlib.Omega.{arith}
-use borrow.Author.Rules.{rules}
 use Rattle.blocks.specs.Bounds.{Bounded}
 use Rattle.icepole.specs.Answers.{open_answer, open_output}
 use Rattle.icepole.proofs.Answers.{fits-itself}

@@ -3,9 +3,8 @@
 use mathlib.Core.Path.{◌≡◌, refl, sym}
 use Prim.Native.Nat.{◌-◌, ◌≤◌}
 use native.Mathlib.Omega.{arith}
-use borrow.Author.Rules.{rules}
 use borrow.Author.Tests.{ne_eqb}
-use lib.ListN.{length, length-map, length-take, take}
+use lib.ListN.{length, length-take, take}
 use Rattle.icepole_c.proofs.Returned.{told}
 use Rattle.icepole_c.proofs.put_info.Goals as goal
 use Rattle.icepole_c.proofs.put_info.Goals.{Start}

@@ -5,8 +5,7 @@ use mathlib.Core.List.{◌++◌}
 use Prim.Native.Nat.{ℕ}
 use native.Mathlib.Nat.{zero-add}
 use native.Mathlib.Omega.{arith}
-use borrow.Author.Rules.{rules}
-use lib.ListN.{length, length-map}
+use lib.ListN.{length}
 use Rattle.bytes_le.specs.Bytes.{put_bytes, le}
 use Rattle.icepole_c.proofs.StripCalls.{state-put}
 use Rattle.icepole_c.proofs.put_strip_state.Goals as goal

@@ -1,6 +1,5 @@
 -- `icepole_c::seal_call` meets its contract: the number is that of the answer.
 -- Assumes nothing.
-use borrow.Author.Rules.{rules}
 use Rattle.icepole_c.proofs.Returned.{seal-refusal}
 use Rattle.icepole_c.proofs.seal_call.Goals as goal
 

@@ -1,12 +1,8 @@
 -- `permutation_bench::bench_p6` meets its contract. The loop's invariant: after i turns the state is P6 of the seeded state, i times over.
 -- Assumes nothing.
-use mathlib.Core.Path.{◌≡◌, sym, ap, ◌∙◌}
-use Prim.Native.Nat.{ℕ, ◌≤◌, ◌-◌}
-use native.Mathlib.Omega.{arith}
-use native.Mathlib.Numerals.{add-one}
-use borrow.Author.Rules.{rules}
-use Rattle.permutation.specs.State.{State, at}
-use Rattle.permutation.specs.Permutation.{start, add_constant, P}
+use mathlib.Core.Path.{◌≡◌}
+use Prim.Native.Nat.{◌≤◌, ◌-◌}
+use Rattle.permutation.specs.Permutation.{start, add_constant}
 use Rattle.permutation_bench.specs.Repeated.{repeated}
 use Rattle.permutation_bench.proofs.bench_p6.Given as goal
 
