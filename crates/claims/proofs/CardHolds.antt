@@ -65,7 +65,7 @@ module _ (n q : ℕ) (h : InRange sized_edition n q) where
   full = record {
     recordable = (planned-shots n).0;
     count = length-map (replicate n q) planned_shot ∙ length-replicate n q;
-    all-kept = (planned-shots n).1;
+    all_kept = (planned-shots n).1;
     mark = refl;
   }
 
@@ -81,7 +81,7 @@ module _ (n q : ℕ) (h : InRange sized_edition n q) where
   files-full [] f = omega arith
   files-full (p ∷ ps) f =
       let w = f.0 in
-      let l = file-full p (valid p.shots w.recordable) w.count w.all-kept w.mark in
+      let l = file-full p (valid p.shots w.recordable) w.count w.all_kept w.mark in
       omega (arith, l, files-full ps f.1)
 
   -- ---- calls that record one
@@ -101,7 +101,7 @@ card-holds card n q some length-fits =
     let c = line-cut card n q z in
     record {
       accepted = z;
-      bursts = λ p f. file-full n q h p (valid p.shots f.recordable) f.count f.all-kept f.mark;
+      bursts = λ p f. file-full n q h p (valid p.shots f.recordable) f.count f.all_kept f.mark;
       lists = λ l r k all. let f = fine (edition_for l) l r.begun in file-full n q h (plain_of (edition_for l) l) f.valid k all f.site16;
       full = full n q h;
       recorded = recorded n q h;

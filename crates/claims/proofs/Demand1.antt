@@ -46,7 +46,6 @@ use Rattle.rounds_back.specs.declared.Direction.{Direction}
 use Rattle.core_c.specs.Calls.{call_refusal, call_agrees, call_round}
 use Rattle.core_c.proofs.Rounds.{refused-leaves}
 use Rattle.sizing.specs.Sizing.{sized_edition, too_long, size_number, size_answer}
-use Rattle.sizing.specs.Cards.{card_number, card_answer}
 use Rattle.sizing.proofs.Numbers.{long-found, long-none}
 use Rattle.round_log.specs.RoundLog.{verdict as log_verdict}
 use Rattle.round_log.specs.declared.Verdict.{Verdict}
@@ -55,7 +54,7 @@ use Rattle.round_log.proofs.Verdicts.{Says, says}
 use Rattle.claims.specs.RoundLogs.{LogOf}
 use Rattle.claims.specs.Demand1.{Refusal, ◌on◌, FirstOf, SealNumber, Seal, order_of_open, order_of_verify, OpenNumber, NoRoomToOpen, Verify, Open, OpenCall}
 use Rattle.claims.specs.Demand1.{OpenInPlace, OpenInPlaceCall, order_of_start, StartNumber, Start, order_of_strip, Strip, order_of_end, End, StartCall, StripCall, EndCall, Begin, Keep, Drop, Close}
-use Rattle.claims.specs.Demand1.{InList, order_of_check, Check, order_at_place, Record, NoRoomToFetch, Fetch, CheckCall, FetchCall, Print, CheckLog, Drive, RunRounds, SizeUpCall, CardLineCall, Demand1}
+use Rattle.claims.specs.Demand1.{InList, order_of_check, Check, order_at_place, Record, NoRoomToFetch, Fetch, CheckCall, FetchCall, Print, CheckLog, Drive, RunRounds, SizeUpCall, Demand1}
 use Rattle.claims.proofs.Orders.{Tells, differs, equals, less, at_most, fails, holds, either, first, Row, row, by_tests, NoZero, behind, then-tests}
 
 one_more : (n : ℕ) → suc n ≢ 0
@@ -355,10 +354,10 @@ module _ (key f : Bytes) where
   checks = record {
     order = check-order;
     refused = λ h. let z = ne_eqb _ 0 h in simp z;
-    mark-closing = λ h d. simp h (mark-closing key f d);
-    mark-record = λ h a place l d g. simp h (mark-record key f a place l d g);
+    mark_closing = λ h d. simp h (mark-closing key f d);
+    mark_record = λ h a place l d g. simp h (mark-record key f a place l d g);
     unmarked = λ h. simp (ne_eqb (check_refusal key f) 7 h);
-    mark-left = refl;
+    mark_left = refl;
   }
 
   -- a number behind check's: where it is not 7, neither is check's
@@ -496,18 +495,7 @@ unfolding size_answer size_number written
 sizes-up lengths =
     record {
       order = by_tests (row 9 (less 60 (length lengths)) ∷ row 10 (long lengths) ∷ []);
-      unmarked = refl;
       refused = λ h. simp (ne_eqb (size_number sized_edition lengths) 0 h);
-    }
-
--- ---- the card line
-card-lines : (card shots picture : ℕ) → CardLineCall card shots picture
-unfolding card_answer card_number written
-card-lines card shots picture =
-    record {
-      order = by_tests (row 16 (either (equals shots 0) (less 60 shots)) ∷ row 10 (either (less picture 1) (less 1048576 picture)) ∷ []);
-      unmarked = refl;
-      refused = λ h. simp (ne_eqb (card_number sized_edition shots picture) 0 h);
     }
 
 pub demand1 : Demand1
@@ -517,30 +505,29 @@ demand1 = record {
   open-number = open-number;
   verifies = verifies;
   opens = opens;
-  opens-in-c = opens-in-c;
-  opens-in-place = opens-in-place;
-  opens-in-place-in-c = opens-in-place-in-c;
+  opens_in_c = opens-in-c;
+  opens_in_place = opens-in-place;
+  opens_in_place_in_c = opens-in-place-in-c;
   start-number = start-number;
   starts = starts;
   strips = strips;
   ends = ends;
-  starts-in-c = starts-in-c;
-  strips-in-c = strips-in-c;
-  ends-in-c = ends-in-c;
+  starts_in_c = starts-in-c;
+  strips_in_c = strips-in-c;
+  ends_in_c = ends-in-c;
   begins = begins;
   keeps = keeps;
   drops = drops;
   closes = closes;
-  in-lists = in-lists;
+  in_lists = in-lists;
   checks = checks;
   records = records;
   fetches = fetches;
-  checks-in-c = checks-in-c;
-  fetches-in-c = fetches-in-c;
+  checks_in_c = checks-in-c;
+  fetches_in_c = fetches-in-c;
   prints = prints;
   judges = judges;
   drives = drives;
-  runs-rounds-in-c = runs-rounds-in-c;
-  sizes-up = sizes-up;
-  card-lines = card-lines;
+  runs_rounds_in_c = runs-rounds-in-c;
+  sizes_up = sizes-up;
 }

@@ -35,14 +35,14 @@ module _ (v : Variant) where
     c = sealed (sizes v) k n s a m
 
     pub length-of : length (sealed (sizes v) k n s a m) ≡ (sizes v).secret + (length m + 16)
-    length-of = length-sealed (sizes v) (bounded v).some (bounded v).block less k n s a m w.secret-length
+    length-of = length-sealed (sizes v) (bounded v).some (bounded v).block less k n s a m w.secret_length
 
     pub seal-does : (out : Bytes) → (sizes v).secret + (length m + 16) ≤ length out
         → (seal_answer v k n s a m out ≡ seal_done ((sizes v).secret + (length m + 16))) × (seal_output v k n s a m out ≡ put_bytes out 0 (sealed (sizes v) k n s a m))
     unfolding seal_answer seal_output seal_refusal
     seal-does out r =
         let z = sym
-        (seal-0 (sizes v) (length k) (length n) (length s) (length a) (length m) (length out) w.key-length w.nonce-length w.secret-length w.associated-length w.message-length r) in
+        (seal-0 (sizes v) (length k) (length n) (length s) (length a) (length m) (length out) w.key_length w.nonce_length w.secret_length w.associated_length w.message_length r) in
         (simp z, simp z)
 
     pub is-length : open_length v (sealed (sizes v) k n s a m) ≡ length m
@@ -50,15 +50,15 @@ module _ (v : Variant) where
 
     agree : tag_agrees (sizes v) k n a (sealed (sizes v) k n s a m) ≡ true
     unfolding tag_agrees
-    agree = tag-of-sealed (sizes v) (bounded v).some (bounded v).block less k n s a m w.secret-length
+    agree = tag-of-sealed (sizes v) (bounded v).some (bounded v).block less k n s a m w.secret_length
 
     accepted : (fits : Bool) → fits ≡ true → open_refusal v k n a (sealed (sizes v) k n s a m) fits ≡ 0
     unfolding open_refusal
     accepted fits e =
         ap (open_number (sizes v) (length k) (length n) (length a) (length (sealed (sizes v) k n s a m)) fits) agree
         ∙ sym
-        (open-0 (sizes v) (length k) (length n) (length a) (length (sealed (sizes v) k n s a m)) fits w.key-length w.nonce-length w.associated-length
-        (omega (arith, length-of, w.message-length)) (omega (arith, length-of)) e)
+        (open-0 (sizes v) (length k) (length n) (length a) (length (sealed (sizes v) k n s a m)) fits w.key_length w.nonce_length w.associated_length
+        (omega (arith, length-of, w.message_length)) (omega (arith, length-of)) e)
 
     pub open-does : (fits : Bool) → fits ≡ true
         → (open_answer v k n a (sealed (sizes v) k n s a m) fits ≡ open_done (length m) s)
@@ -66,8 +66,8 @@ module _ (v : Variant) where
     unfolding open_answer open_output
     open-does fits e =
         let z = accepted fits e in
-        let es = secret-of-sealed (sizes v) (bounded v).some (bounded v).block less k n s a m w.secret-length in
-        let em = message-of-sealed (sizes v) (bounded v).some (bounded v).block less k n s a m w.secret-length in (
+        let es = secret-of-sealed (sizes v) (bounded v).some (bounded v).block less k n s a m w.secret_length in
+        let em = message-of-sealed (sizes v) (bounded v).some (bounded v).block less k n s a m w.secret_length in (
           simp z (ap₂ open_done is-length es),
           λ out. simp z (ap (put_bytes out 0) em),
         )
@@ -86,7 +86,7 @@ module _ (v : Variant) where
         let e : fits_both v k n a c out info ≡ true = simp (le-leb (8 + (sizes v).secret) (length info) t, fits_out out r) in
         let d = open-does (fits_both v k n a c out info) e in
         let b = (bounded v).secret in
-        let z = w.secret-length in
+        let z = w.secret_length in
         let q : take (sizes v).secret (put_bytes (replicate 16 0) 0 s) ≡ s =
         take_put (replicate 16 0) 0 s (sizes v).secret (omega arith) (omega arith) in (
           ap (λ (x : Opened). x.refusal) d.0,
@@ -122,13 +122,13 @@ module _ (v : Variant) where
           secret = s;
           message = m;
           within = record {
-            key-length = f.key;
-            nonce-length = f.nonce;
-            secret-length = ls;
-            associated-length = f.associated;
-            message-length = rw lm f.message;
+            key_length = f.key;
+            nonce_length = f.nonce;
+            secret_length = ls;
+            associated_length = f.associated;
+            message_length = rw lm f.message;
           };
-          sealed-is = seal-open (sizes v) (bounded v).some (bounded v).block less k n a c s m it_opens;
+          sealed_is = seal-open (sizes v) (bounded v).some (bounded v).block less k n a c s m it_opens;
           room = f.room;
           answer = simp e (ap (λ (i : ℕ). open_done i (secret_of (sizes v) k n c)) (sym lm));
           output = λ out. simp e;
@@ -144,10 +144,10 @@ pub demand2 : Demand2
 demand2 =
     record {
       seals = λ v k n s a m out w r. seal-does v k n s a m w out r;
-      sealed-length = length-of;
+      sealed_length = length-of;
       opens = λ v k n s a m w. open-does v k n s a m w true refl;
       fits = λ v k n s a m out w r. fits_out v k n s a m w out r;
-      opens-in-c = λ v k n s a m out info w r t. open-in-c v k n s a m w out info r t;
+      opens_in_c = λ v k n s a m out info w r t. open-in-c v k n s a m w out info r t;
       only = genuine;
       withholds = withheld;
     }

@@ -12,10 +12,10 @@ demand3 = record {
   agrees = agreement;
   answered = answered;
   closes = always-closes;
-  one-burst = one-burst;
+  one_burst = one-burst;
   accepts = accepts;
   gives_back = gives_back;
-  on-card = on-card;
+  on_card = on-card;
   reads = reads;
   withholds = withholds;
 }

@@ -52,7 +52,7 @@ module _ (v : Variant) (key nonce ad c : Bytes) where
       ap (take n) (ap (λ (b : Bool). open_output v key nonce ad c b out) e ∙ g.output out) ∙ take_put out 0 g.message n (omega arith) (omega arith)
 
   long : (fits : Bool) (g : GenuineMessage v key nonce ad c fits) → open_length v c ≡ length g.message
-  long fits g = ap (open_length v) g.sealed-is ∙ is-length v key nonce g.secret ad g.message g.within
+  long fits g = ap (open_length v) g.sealed_is ∙ is-length v key nonce g.secret ad g.message g.within
 
   module _ (out : Bytes) (h : open_length v c ≤ length out) where
     room : fits_output v c out ≡ true
@@ -124,10 +124,10 @@ in_place = record {
   only = only;
   alike = alike;
   refused = refused;
-  never-5 = never-5;
+  never_5 = never-5;
   fits = fits-itself;
   in_c = in_c;
-  five-in-c = five-in-c;
-  refused-in-c = λ v key nonce ad c info. (opens-in-place-in-c v key nonce ad c info).refused;
-  alike-in-c = λ v key nonce ad c out info h. alike-in-c v key nonce ad c out h info;
+  five_in_c = five-in-c;
+  refused_in_c = λ v key nonce ad c info. (opens-in-place-in-c v key nonce ad c info).refused;
+  alike_in_c = λ v key nonce ad c out info h. alike-in-c v key nonce ad c out h info;
 }

@@ -18,4 +18,5 @@ pub mod Accept
 pub mod Demand3
 pub mod OneKey
 pub mod SizeUp
+pub mod CardCalls
 pub mod CardHolds

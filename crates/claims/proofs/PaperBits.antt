@@ -172,12 +172,12 @@ cipher-bit v b i h l =
 pub paper-bits : PaperBits
 paper-bits =
     record {
-      state-bits = paper-bit;
-      bits-state = bit-back;
-      pad-block = front;
-      pad-frame = frame-bit;
-      pad-one = one_bit;
-      pad-zeros = zero_bits;
-      xor-bits = xor-bit;
-      cipher-bits = cipher-bit;
+      state_bits = paper-bit;
+      bits_state = bit-back;
+      pad_block = front;
+      pad_frame = frame-bit;
+      pad_one = one_bit;
+      pad_zeros = zero_bits;
+      xor_bits = xor-bit;
+      cipher_bits = cipher-bit;
     }

@@ -11,7 +11,7 @@ round-logs =
       accepts = λ log r. verdict-says log (Agrees r);
       names = λ log n. verdict-says log (Differs n);
       refuses = λ log k. verdict-says log (Refused k);
-      word-order = word-order;
+      word_order = word-order;
       from_start = from_start;
-      of-runs = of-runs;
+      of_runs = of-runs;
     }

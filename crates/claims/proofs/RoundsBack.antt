@@ -80,13 +80,13 @@ rounds-back =
       boxes = λ M. (box-back M, box-forth M);
       round = round-inverse;
       rounds = rounds-inverse;
-      just-one = one;
+      just_one = one;
       unique = none-meet;
       states = λ s. (state-shaped s, λ h. shaped-state s h.0 h.1);
       gives = gives;
       arrives = λ s r h. ap (λ (a : Driven). a.state) (driven-within Forward s r h);
       refuses = refuses;
       in_place = in_place;
-      forward-after-back = λ r. calls_back Back Forward r (rounds-inverse r).undone (rounds-inverse r).forth;
-      back-after-forward = λ r. calls_back Forward Back r (rounds-inverse r).done (rounds-inverse r).back;
+      forward_after_back = λ r. calls_back Back Forward r (rounds-inverse r).undone (rounds-inverse r).forth;
+      back_after_forward = λ r. calls_back Forward Back r (rounds-inverse r).done (rounds-inverse r).back;
     }

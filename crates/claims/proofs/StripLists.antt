@@ -465,4 +465,4 @@ list-cut key nonce secret associated out end xs hk hn hs ha ho hm he = (subst Al
     whole e = ap (λ (p : PlainMessage). cond p.finished (sealing l p.message) (take (16 + length p.message) (sealing l p.message))) (after e)
 
 pub strip-lists : StripLists
-strip-lists = record { agrees = list-agrees; outputs = list-outputs; bytes = list-bytes; any-cut = list-cut }
+strip-lists = record { agrees = list-agrees; outputs = list-outputs; bytes = list-bytes; any_cut = list-cut }

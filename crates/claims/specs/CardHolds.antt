@@ -2,7 +2,7 @@
 -- whole number of full bursts and the exact bytes left: card = bursts times file length + left, with left below the file length. All numbers are 64 bits. It refuses
 -- shots of 0 or above 60 with 16, first, and a picture length out of range with 10."
 -- The call is `sizing::card_line`, whose contract is that it answers `card_answer card shots picture`, for all numbers of 64 bits; `burst_card_line` gives the same
--- numbers in C. `Demand1` has what it refuses. Here, of every card, 1 to 60 shots and a picture of 1 to 1,048,576 bytes, where `each` is `full_length` of edition 2:
+-- numbers in C. `CardCalls` has what it refuses. Here, of every card, 1 to 60 shots and a picture of 1 to 1,048,576 bytes, where `each` is `full_length` of edition 2:
 --   accepted  the line is not refused
 --   bursts    each is the length of the file of every full burst: a plain burst of edition 2 with so many shots that can be recorded, all kept, whose pictures have
 --             this length, and with a site mark of 16 bytes
@@ -40,7 +40,7 @@ AllKept picture (gap ∷ xs) = ⊥
 pub record FullBurst (shots picture : ℕ) (p : Plain) : Type 0 where
   pub recordable : Recordable p.shots
   pub count : length p.shots ≡ shots
-  pub all-kept : AllKept picture p.shots
+  pub all_kept : AllKept picture p.shots
   pub mark : length p.identity.site_mark ≡ 16
 
 -- ---- a card's bursts, and the bytes of their files

@@ -38,9 +38,7 @@ use Rattle.listing.specs.declared.Listed.{Listed}
 use Rattle.listing.specs.Listing.{listing, text_room, list_refusal, list_answer, list_output}
 use Rattle.burst_c.specs.Calls.{check_info_length, fetch_info_length, check_call_refusal, check_call_info, fetch_call_refusal, fetch_call_output, fetch_call_info}
 use Rattle.sizing.specs.declared.Size.{Size}
-use Rattle.sizing.specs.declared.CardLine.{CardLine}
 use Rattle.sizing.specs.Sizing.{size_answer}
-use Rattle.sizing.specs.Cards.{card_answer}
 use Rattle.round_log.specs.RoundLog.{verdict}
 use Rattle.permutation.specs.State.{State}
 use Rattle.rounds_back.specs.Driven.{driven}
@@ -331,13 +329,13 @@ module _ (key f : Bytes) where
     pub order : FirstOf checking order_of_check
     pub refused : checking ≢ 0 → check_answer key f ≡ not_checked checking (check_answer key f).mark
     -- the mark under 7: 0 where the closing seal's tag differs, else the shot number of the first record whose tag does; 0 under every other number
-    pub mark-closing : checking ≡ 7 → ClosingDiffers → (check_answer key f).mark ≡ 0
-    pub mark-record : checking ≡ 7 → agrees key f (closing_part f) ≡ true
+    pub mark_closing : checking ≡ 7 → ClosingDiffers → (check_answer key f).mark ≡ 0
+    pub mark_record : checking ≡ 7 → agrees key f (closing_part f) ≡ true
         → (place : ℕ) → place < kept_in f → record_agrees place ≡ false → ((before : ℕ) → before < place → record_agrees before ≡ true)
         → (check_answer key f).mark ≡ (entry_at f (position_of f place)).shot.0
     pub unmarked : checking ≢ 7 → (check_answer key f).mark ≡ 0
     -- what record and the C calls leave in the number lent for the mark
-    pub mark-left : check_mark key f ≡ (check_answer key f).mark
+    pub mark_left : check_mark key f ≡ (check_answer key f).mark
 
 -- record, also in C: check's, 13
 module _ (key f : Bytes) (place : ℕ) where
@@ -419,18 +417,7 @@ module _ (lengths : List ℕ) where
 
   pub record SizeUpCall : Type 0 where
     pub order : FirstOf size.refusal ((9 on (60 < length lengths)) ∷ (10 on ((i : ℕ) × (i < length lengths) × (1048576 < get_or lengths i 0))) ∷ [])
-    pub unmarked : size.mark ≡ 0
     pub refused : size.refusal ≢ 0 → size ≡ record { refusal = size.refusal; mark = 0; file_length = 0; p12 = 0; p6 = 0 }
-
--- ---- the card line: 16 for the shots, then 10 for the picture length (02, N2). The numbers that the C call writes are those of the answer
-module _ (card shots picture : ℕ) where
-  abbrev line : CardLine
-  line = card_answer card shots picture
-
-  pub record CardLineCall : Type 0 where
-    pub order : FirstOf line.refusal ((16 on ((shots ≡ 0) ⊎ (60 < shots))) ∷ (10 on ((picture < 1) ⊎ (1048576 < picture))) ∷ [])
-    pub unmarked : line.mark ≡ 0
-    pub refused : line.refusal ≢ 0 → line ≡ record { refusal = line.refusal; mark = 0; bursts = 0; left = 0 }
 
 pub record Demand1 : Type 0 where
   pub seal-number : SealNumber
@@ -438,29 +425,28 @@ pub record Demand1 : Type 0 where
   pub open-number : OpenNumber
   pub verifies : (v : Variant) (key nonce ad c : Bytes) → Verify v key nonce ad c
   pub opens : (v : Variant) (key nonce ad c out : Bytes) → Open v key nonce ad c out
-  pub opens-in-c : (v : Variant) (key nonce ad c out info : Bytes) → OpenCall v key nonce ad c out info
-  pub opens-in-place : (v : Variant) (key nonce ad c : Bytes) → OpenInPlace v key nonce ad c
-  pub opens-in-place-in-c : (v : Variant) (key nonce ad c info : Bytes) → OpenInPlaceCall v key nonce ad c info
+  pub opens_in_c : (v : Variant) (key nonce ad c out info : Bytes) → OpenCall v key nonce ad c out info
+  pub opens_in_place : (v : Variant) (key nonce ad c : Bytes) → OpenInPlace v key nonce ad c
+  pub opens_in_place_in_c : (v : Variant) (key nonce ad c info : Bytes) → OpenInPlaceCall v key nonce ad c info
   pub start-number : StartNumber
   pub starts : (key nonce secret ad out : Bytes) → Start key nonce secret ad out
   pub strips : (s : StripState) (m out : Bytes) → Strip s m out
   pub ends : (s : StripState) (out : Bytes) → End s out
-  pub starts-in-c : (key nonce secret ad out state : Bytes) → StartCall key nonce secret ad out state
-  pub strips-in-c : (state m out : Bytes) → StripCall state m out
-  pub ends-in-c : (state out : Bytes) → EndCall state out
+  pub starts_in_c : (key nonce secret ad out state : Bytes) → StartCall key nonce secret ad out state
+  pub strips_in_c : (state m out : Bytes) → StripCall state m out
+  pub ends_in_c : (state out : Bytes) → EndCall state out
   pub begins : (key : Bytes) (i : Identity) (buffer : Bytes) → Begin key i buffer
   pub keeps : (r : Recorder) (stamp picture buffer : Bytes) → Keep r stamp picture buffer
   pub drops : (r : Recorder) → Drop r
   pub closes : (r : Recorder) (buffer : Bytes) → Close r buffer
-  pub in-lists : (r : Recorder) (buffer : Bytes) (c : Call) → InList r buffer c
+  pub in_lists : (r : Recorder) (buffer : Bytes) (c : Call) → InList r buffer c
   pub checks : (key f : Bytes) → Check key f
   pub records : (key f : Bytes) (place : ℕ) → Record key f place
   pub fetches : (key f : Bytes) (place : ℕ) (out : Bytes) → Fetch key f place out
-  pub checks-in-c : (key f info : Bytes) → CheckCall key f info
-  pub fetches-in-c : (key f : Bytes) (place : ℕ) (out info : Bytes) → FetchCall key f place out info
+  pub checks_in_c : (key f info : Bytes) → CheckCall key f info
+  pub fetches_in_c : (key f : Bytes) (place : ℕ) (out info : Bytes) → FetchCall key f place out info
   pub prints : (f out : Bytes) → Print f out
   pub judges : (log : Bytes) → CheckLog log
   pub drives : (d : Direction) (s : State) (r : ℕ) → Drive d s r
-  pub runs-rounds-in-c : (d : Direction) (r : ℕ) (b : Bytes) → RunRounds d r b
-  pub sizes-up : (lengths : List ℕ) → SizeUpCall lengths
-  pub card-lines : (card shots picture : ℕ) → CardLineCall card shots picture
+  pub runs_rounds_in_c : (d : Direction) (r : ℕ) (b : Bytes) → RunRounds d r b
+  pub sizes_up : (lengths : List ℕ) → SizeUpCall lengths

@@ -17,11 +17,11 @@ use Rattle.icepole_c.specs.Calls.{info_length, open_call_refusal, open_call_outp
 
 -- key, nonce and secret number have the variant's lengths, and the data is within the limits
 pub record Within (v : Variant) (key nonce secret ad m : Bytes) : Type 0 where
-  pub key-length : length key ≡ (sizes v).key
-  pub nonce-length : length nonce ≡ (sizes v).nonce
-  pub secret-length : length secret ≡ (sizes v).secret
-  pub associated-length : length ad ≤ max_length
-  pub message-length : length m ≤ max_length
+  pub key_length : length key ≡ (sizes v).key
+  pub nonce_length : length nonce ≡ (sizes v).nonce
+  pub secret_length : length secret ≡ (sizes v).secret
+  pub associated_length : length ad ≤ max_length
+  pub message_length : length m ≤ max_length
 
 -- done: number 0, mark 0, and the count of bytes written
 abbrev pub seal_done : ℕ → Sealed
@@ -36,7 +36,7 @@ pub record GenuineMessage (v : Variant) (key nonce ad c : Bytes) (fits : Bool) :
   pub secret : Bytes
   pub message : Bytes
   pub within : Within v key nonce secret ad message
-  pub sealed-is : c ≡ sealed (sizes v) key nonce secret ad message
+  pub sealed_is : c ≡ sealed (sizes v) key nonce secret ad message
   pub room : fits ≡ true
   pub answer : open_answer v key nonce ad c fits ≡ open_done (length message) secret
   pub output : (out : Bytes) → open_output v key nonce ad c fits out ≡ put_bytes out 0 message
@@ -48,7 +48,7 @@ pub record Demand2 : Type 0 where
       → (seal_answer v key nonce secret ad m out ≡ seal_done ((sizes v).secret + (length m + tag_length)))
       × (seal_output v key nonce secret ad m out ≡ put_bytes out 0 (sealed (sizes v) key nonce secret ad m))
   -- a sealed message is the secret number and the tag longer than its message
-  pub sealed-length : (v : Variant) (key nonce secret ad m : Bytes) → Within v key nonce secret ad m
+  pub sealed_length : (v : Variant) (key nonce secret ad m : Bytes) → Within v key nonce secret ad m
       → length (sealed (sizes v) key nonce secret ad m) ≡ (sizes v).secret + (length m + tag_length)
   -- opening what sealing gives, where the answer fits, is done, and gives back secret number and message
   pub opens : (v : Variant) (key nonce secret ad m : Bytes) → Within v key nonce secret ad m
@@ -58,7 +58,7 @@ pub record Demand2 : Type 0 where
   pub fits : (v : Variant) (key nonce secret ad m out : Bytes) → Within v key nonce secret ad m → length m ≤ length out
       → fits_output v (sealed (sizes v) key nonce secret ad m) out ≡ true
   -- in C, with room in the output and in the further slice: the message, and its length (8 bytes) with the secret number, at their fronts
-  pub opens-in-c : (v : Variant) (key nonce secret ad m out info : Bytes) → Within v key nonce secret ad m → length m ≤ length out → info_length v ≤ length info
+  pub opens_in_c : (v : Variant) (key nonce secret ad m out info : Bytes) → Within v key nonce secret ad m → length m ≤ length out → info_length v ≤ length info
       → (open_call_refusal v key nonce ad (sealed (sizes v) key nonce secret ad m) out info ≡ 0)
       × (open_call_output v key nonce ad (sealed (sizes v) key nonce secret ad m) out info ≡ put_bytes out 0 m)
       × (open_call_info v key nonce ad (sealed (sizes v) key nonce secret ad m) out info ≡ put_bytes info 0 (le 8 (length m) ++ secret))

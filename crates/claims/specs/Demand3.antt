@@ -3,10 +3,10 @@
 --   agrees      numbers, shot numbers and totals equal those of the plain burst, and after an accepted close the front of the buffer is its file
 --   answered    an accepted close is one that was answered 0
 --   closes      a burst that was begun and is not closed can be closed next
---   one-burst   no file belongs to two bursts under its key, nor to two editions
+--   one_burst   no file belongs to two bursts under its key, nor to two editions
 --   accepts     the reader accepts exactly the files of such lists
 --   gives_back  it then gives back burst number, camera number, site mark and the list of shots, with taken = kept + dropped
---   on-card     so too from the front of the buffer that the list leaves
+--   on_card     so too from the front of the buffer that the list leaves
 --   reads       and of every accepted file, what was read back makes that file again, as one of the file's own edition
 --   withholds   otherwise it releases no picture byte
 -- A list is read as one of an edition, a row of `editions`; the row that the recorder makes of it is `edition_for`. The cipher is the one that `Parts` of
@@ -215,9 +215,9 @@ pub record Demand3 : Type 0 where
   pub agrees : Agreement
   pub answered : Answered
   pub closes : AlwaysCloses
-  pub one-burst : OneBurst
+  pub one_burst : OneBurst
   pub accepts : Accepts
   pub gives_back : GivesBack
-  pub on-card : OnCard
+  pub on_card : OnCard
   pub reads : Reads
   pub withholds : Withholds

@@ -53,7 +53,7 @@ pub record InPlace : Type 0 where
   -- ---- "a refusal leaves the sealed bytes"
   pub refused : (v : Variant) (key nonce ad c : Bytes) → (in_place_answer v key nonce ad c).refusal ≢ 0 → in_place_buffer v key nonce ad c ≡ c
   -- ---- "The output check (5) cannot occur here": 5 is never the number, for the message that c implies always fits into c
-  pub never-5 : (v : Variant) (key nonce ad c : Bytes) → (in_place_answer v key nonce ad c).refusal ≢ 5
+  pub never_5 : (v : Variant) (key nonce ad c : Bytes) → (in_place_answer v key nonce ad c).refusal ≢ 5
   pub fits : (v : Variant) (c : Bytes) → fits_output v c c ≡ true
   -- ---- in C: where info is long enough, the same number and buffer; length and secret number go to the front of info where the number is 0, else it stays
   pub in_c : (v : Variant) (key nonce ad c info : Bytes) → info_length v ≤ length info
@@ -61,8 +61,8 @@ pub record InPlace : Type 0 where
       × (open_call_output v key nonce ad c c info ≡ in_place_buffer v key nonce ad c)
       × (open_call_info v key nonce ad c c info ≡ info_after (in_place_answer v key nonce ad c) (sizes v).secret info)
   -- 5 is for info alone
-  pub five-in-c : (v : Variant) (key nonce ad c info : Bytes) → open_call_refusal v key nonce ad c c info ≡ 5 → length info < info_length v
+  pub five_in_c : (v : Variant) (key nonce ad c info : Bytes) → open_call_refusal v key nonce ad c c info ≡ 5 → length info < info_length v
   -- a refusal leaves the sealed bytes, and info, also where info is too short
-  pub refused-in-c : (v : Variant) (key nonce ad c info : Bytes) → open_call_refusal v key nonce ad c c info ≢ 0
+  pub refused_in_c : (v : Variant) (key nonce ad c info : Bytes) → open_call_refusal v key nonce ad c c info ≢ 0
       → (open_call_output v key nonce ad c c info ≡ c) × (open_call_info v key nonce ad c c info ≡ info)
-  pub alike-in-c : (v : Variant) (key nonce ad c out info : Bytes) → open_length v c ≤ length out → BesideOpeningInC v key nonce ad c out info
+  pub alike_in_c : (v : Variant) (key nonce ad c out info : Bytes) → open_length v c ≤ length out → BesideOpeningInC v key nonce ad c out info

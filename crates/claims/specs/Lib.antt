@@ -11,4 +11,5 @@ pub mod StripLists
 pub mod Demand3
 pub mod OneKey
 pub mod SizeUp
+pub mod CardCalls
 pub mod CardHolds

@@ -14,14 +14,14 @@ bit_of b i = bit (get_or b (i / 8) 0) (i % 8)
 
 pub record PaperBits : Type 0 where
   -- v[64(x + 4y) + z] = S[x][y][z] (003, 2.3)
-  pub state-bits : (S : ℕ → ℕ → ℕ) (x y z : ℕ) → x < 4 → y < 5 → z < 64 → bit_of (bytes_of (state S)) (64 * (x + 4 * y) + z) ≡ bit (S x y) z
+  pub state_bits : (S : ℕ → ℕ → ℕ) (x y z : ℕ) → x < 4 → y < 5 → z < 64 → bit_of (bytes_of (state S)) (64 * (x + 4 * y) + z) ≡ bit (S x y) z
   -- and back, of the state whose bytes are v
-  pub bits-state : (v : Bytes) → AllBytes v → (x y z : ℕ) → x < 4 → y < 5 → z < 64 → bit (at (state_of v) x y) z ≡ bit_of v (64 * (x + 4 * y) + z)
+  pub bits_state : (v : Bytes) → AllBytes v → (x y z : ℕ) → x < 4 → y < 5 → z < 64 → bit (at (state_of v) x y) z ≡ bit_of v (64 * (x + 4 * y) + z)
   -- a block of L bytes, L = length b, with the frame bit f
-  pub pad-block : (b : Bytes) (f i : ℕ) → i < 8 * length b → bit_of (pad b f) i ≡ bit_of b i
-  pub pad-frame : (b : Bytes) (f : ℕ) → f < 2 → bit_of (pad b f) (8 * length b) ≡ eqb f 1
-  pub pad-one : (b : Bytes) (f : ℕ) → f < 2 → bit_of (pad b f) (8 * length b + 1) ≡ true
-  pub pad-zeros : (b : Bytes) (f : ℕ) → f < 2 → (i : ℕ) → bit_of (pad b f) (8 * length b + (2 + i)) ≡ false
-  pub xor-bits : (v b : Bytes) (i : ℕ) → i < 8 * length v → bit_of (xor_with v b) i ≡ bit_of v i ⊕ bit_of b i
+  pub pad_block : (b : Bytes) (f i : ℕ) → i < 8 * length b → bit_of (pad b f) i ≡ bit_of b i
+  pub pad_frame : (b : Bytes) (f : ℕ) → f < 2 → bit_of (pad b f) (8 * length b) ≡ eqb f 1
+  pub pad_one : (b : Bytes) (f : ℕ) → f < 2 → bit_of (pad b f) (8 * length b + 1) ≡ true
+  pub pad_zeros : (b : Bytes) (f : ℕ) → f < 2 → (i : ℕ) → bit_of (pad b f) (8 * length b + (2 + i)) ≡ false
+  pub xor_bits : (v b : Bytes) (i : ℕ) → i < 8 * length v → bit_of (xor_with v b) i ≡ bit_of v i ⊕ bit_of b i
   -- the same of a ciphertext
-  pub cipher-bits : (v b : Bytes) (i : ℕ) → length b ≤ length v → i < 8 * length b → bit_of (v ⊕₈ b) i ≡ bit_of v i ⊕ bit_of b i
+  pub cipher_bits : (v b : Bytes) (i : ℕ) → length b ≤ length v → i < 8 * length b → bit_of (v ⊕₈ b) i ≡ bit_of v i ⊕ bit_of b i

@@ -31,10 +31,10 @@ pub record RoundLogs : Type 0 where
   -- it refuses exactly what has another length, with 19
   pub refuses : (log : Bytes) (k : ℕ) → (verdict log ≡ Refused k) ↔ ((k ≡ 19) × ((r : ℕ) → LogOf r log → ⊥))
   -- in word order: word number w of state i has the eight bytes from 160 i + 8 w on, low byte first
-  pub word-order : (log : Bytes) (i w : ℕ) → w < 20 → word_of (state_at log i) w ≡ le_at 8 log (160 * i + 8 * w)
+  pub word_order : (log : Bytes) (i w : ℕ) → w < 20 → word_of (state_at log i) w ≡ le_at 8 log (160 * i + 8 * w)
   -- beside the request: whoever judges a round by what the log should have been from its start on comes to the same verdict, since up to the first round that
   -- differs the states of the log are those of the run. (At n = r this is acceptance; at n and at n + 1, that round n is the first that differs.)
   pub from_start : (log : Bytes) (n : ℕ) → RightBelow log n ↔ ((i : ℕ) → i ≤ n → state_at log i ≡ P i (state_at log 0))
   -- beside the request: what is accepted are exactly the logs of runs, from states of the core, where the log's numbers are bytes
-  pub of-runs : (log : Bytes) → AllBytes log → (r : ℕ)
+  pub of_runs : (log : Bytes) → AllBytes log → (r : ℕ)
       → (verdict log ≡ Agrees r) ↔ ((1 ≤ r) × (r ≤ 12) × ((s : State) × IsState s × (log ≡ log_of_run s r)))

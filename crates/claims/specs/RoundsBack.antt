@@ -41,7 +41,7 @@ pub record RoundsBack : Type 0 where
   pub round : (n : ℕ) → Inverses (λ s. R s n) (λ s. R⁻¹ s n)
   pub rounds : (r : ℕ) → Inverses (P r) (P⁻¹ r)
   -- ---- "There is always just one" from which r rounds reach the wanted state; and so no two states lead to the same
-  pub just-one : (r : ℕ) (wanted : State) → IsState wanted
+  pub just_one : (r : ℕ) (wanted : State) → IsState wanted
       → (s : State) × IsState s × (P r s ≡ wanted) × ((t : State) → IsState t → P r t ≡ wanted → t ≡ s)
   pub unique : (r : ℕ) (s t : State) → IsState s → IsState t → P r s ≡ P r t → s ≡ t
   -- the states of which all this speaks are those that the program holds: Shape and bound are what the type [[u64; 5]; 4] tells (`state_bytes::shaped`)
@@ -56,5 +56,5 @@ pub record RoundsBack : Type 0 where
   -- ---- the C calls do the same to the first 160 bytes of a slice, and later bytes stay
   pub in_place : (d : Direction) (r : ℕ) (b : Bytes) → r ≤ 12 → 160 ≤ length b → after_rounds d r b ≡ (driven d (state_of (take 160 b)) r).state ++ drop 160 b
   -- one after the other they leave every slice as it was, of whatever length, whatever r is
-  pub forward-after-back : (r : ℕ) (b : Bytes) → AllBytes b → after_rounds Forward r (after_rounds Back r b) ≡ b
-  pub back-after-forward : (r : ℕ) (b : Bytes) → AllBytes b → after_rounds Back r (after_rounds Forward r b) ≡ b
+  pub forward_after_back : (r : ℕ) (b : Bytes) → AllBytes b → after_rounds Forward r (after_rounds Back r b) ≡ b
+  pub back_after_forward : (r : ℕ) (b : Bytes) → AllBytes b → after_rounds Back r (after_rounds Forward r b) ≡ b

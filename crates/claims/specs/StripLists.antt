@@ -3,7 +3,7 @@
 --   agrees    numbers and counts equal those of the plain message, which is worked out from the calls' arguments alone
 --   outputs   every output, whole: as it was where its call was turned down, else with its part of the sealed message at the front
 --   bytes     those parts, joined, are the sealed message up to here, and the whole of it after an accepted end
---   any-cut   for every list of strips whose joining is the message, each call is accepted and the bytes equal whole sealing
+--   any_cut   for every list of strips whose joining is the message, each call is accepted and the bytes equal whole sealing
 -- `StripCallLists`: lists of the C calls are such lists. Each call is lent the same slice for the state, as the call before left it; what it held before the
 -- start does not matter.
 --   numbers   the numbers that the C calls return are those of the list of strips, and so, by `agrees`, those of the plain message
@@ -194,7 +194,7 @@ pub record StripLists : Type 0 where
   pub outputs : (l : StripList) → run_outputs l ≡ plain_outputs l
   pub bytes : (l : StripList) → start_number_of l ≡ 0
       → run_written l ≡ cond (plain_of l).finished (sealing l (plain_of l).message) (take (secret_length + length (plain_of l).message) (sealing l (plain_of l).message))
-  pub any-cut : (key nonce secret associated out end : Bytes) (xs : List Piece)
+  pub any_cut : (key nonce secret associated out end : Bytes) (xs : List Piece)
       → length key ≡ (sizes Icepole128).key → length nonce ≡ (sizes Icepole128).nonce → length secret ≡ secret_length
       → length associated ≤ max_length → secret_length ≤ length out → length (joined xs) ≤ max_length → tag_length ≤ length end
       → let l : StripList = record { key = key; nonce = nonce; secret = secret; associated = associated; out = out; calls = cut xs end } in

@@ -49,7 +49,7 @@ pub record Lent (f : Bytes) (position : ℕ) (x : Entry) : Type 0 where
   pub entry : take (position + entry_length - position) (drop position f) ≡ take entry_length (drop position f)
   pub sealed : take (x.offset + (x.length + seal_length) - x.offset) (drop x.offset f) ≡ take (x.length + seal_length) (drop x.offset f)
   pub entry_length_lem : length (take (position + entry_length - position) (drop position f)) ≡ entry_length
-  pub sealed-length : length (take (x.offset + (x.length + seal_length) - x.offset) (drop x.offset f)) ≡ x.length + seal_length
+  pub sealed_length : length (take (x.offset + (x.length + seal_length) - x.offset) (drop x.offset f)) ≡ x.length + seal_length
 
 pub lent : (f : Bytes) (position : ℕ) (x : Entry) → position + entry_length ≤ length f → x.offset + (x.length + seal_length) ≤ length f → Lent f position x
 lent f position x h g =
@@ -63,7 +63,7 @@ lent f position x h g =
       entry = e₁;
       sealed = e₂;
       entry_length_lem = ap length e₁ ∙ length-take-le entry_length (drop position f) (omega (arith, d₁, h));
-      sealed-length = ap length e₂ ∙ length-take-le (x.length + seal_length) (drop x.offset f) (omega (arith, d₂, g));
+      sealed_length = ap length e₂ ∙ length-take-le (x.length + seal_length) (drop x.offset f) (omega (arith, d₂, g));
     }
 
 -- ---- the record of the entry x

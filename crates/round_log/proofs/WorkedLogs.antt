@@ -10,4 +10,4 @@ use Rattle.round_log.specs.WorkedLogs.{WorkedLogs}
 
 pub worked-logs : WorkedLogs
 unfolding verdict judged round_agrees state_at state_of column le_at bytes_of R μ rotl ψ bit number
-worked-logs = record { right = refl; second-differs = refl; first-differs = refl; one_state = refl; no_bytes = refl }
+worked-logs = record { right = refl; second_differs = refl; first_differs = refl; one_state = refl; no_bytes = refl }

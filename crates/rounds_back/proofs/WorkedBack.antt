@@ -8,4 +8,4 @@ use Rattle.rounds_back.specs.WorkedBack.{WorkedBack}
 
 pub worked-back : WorkedBack
 unfolding μ⁻¹ ψ⁻¹ R⁻¹ P⁻¹ rotl bit number
-worked-back = record { kappa = refl; psi = refl; pi = refl; rho = refl; mu = refl; one-round = refl; two-rounds = refl }
+worked-back = record { kappa = refl; psi = refl; pi = refl; rho = refl; mu = refl; one_round = refl; two_rounds = refl }

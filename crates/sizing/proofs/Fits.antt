@@ -234,7 +234,7 @@ module _ (key : Bytes) (i : Identity) (cs : List Call) (b : Bytes) (good : Begin
   -- ---- begin, and what follows it
   begin-done : Whole row (length b) xs → begin_number_of row l ≡ 0
   begin-done w =
-      sym (begin-0 row (length key) (length i.site_mark) i.name.camera (length b) good.key_fits good.mark-fits
+      sym (begin-0 row (length key) (length i.site_mark) i.name.camera (length b) good.key_fits good.mark_fits
       (no-camera row i.name.camera good.numbered) (room-before row (length b) [] xs w))
 
   begun-is : begin_number_of row l ≡ 0 → begun row l ≡ new

@@ -23,7 +23,7 @@ OnlyShots (close_burst ∷ cs) = ⊥
 -- what begin is given, but for the buffer: nothing that it refuses
 pub record Beginnable (key : Bytes) (i : Identity) : Type 0 where
   pub key_fits : length key ≡ key_length
-  pub mark-fits : length i.site_mark ≡ mark_length
+  pub mark_fits : length i.site_mark ≡ mark_length
   pub numbered : i.name.camera ≢ 0
 
 -- the list of all calls, on a buffer of n bytes

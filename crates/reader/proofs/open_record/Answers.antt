@@ -35,7 +35,7 @@ returns c =
     let ea = append-nil _ ∙ l.entry in
     let r = c.open_part-got.ensures.0 ∙ record-answer k f _ c.edition_in-e.ensures.0 _ c.name_in-name.ensures a.position x p.2 _ ea _ l.sealed in
     let z : length (sealed_in k f part) ≡ x.length + seal_length = sym (ap (λ (y : Entry). length (take (y.length + seal_length) (drop y.offset f))) p.2)
-    ∙ sym (ap length l.sealed) ∙ l.sealed-length in (
+    ∙ sym (ap length l.sealed) ∙ l.sealed_length in (
       ap (fetched_as x) (mark-told k f part _ r p.3 (omega (arith, z))),
       c.open_part-got.ensures.1
           ∙ record-output k f _ c.edition_in-e.ensures.0 _ c.name_in-name.ensures a.position x p.2 _ ea _ l.sealed a.out.now

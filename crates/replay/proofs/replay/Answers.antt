@@ -10,7 +10,6 @@ use Rattle.burst.specs.Layout.{identified}
 use Rattle.replay.proofs.Scripts.{calls-most}
 use Rattle.replay.proofs.Whole.{nothing-done, all_done}
 use Rattle.replay.proofs.replay.Goals as goal
-use Rattle.replay.proofs.replay.Goals.{Start}
 
 pub returns-then-answers-lt-ANSWER_LENGTH : goal.returns-then-answers-lt-ANSWER_LENGTH
 returns-then-answers-lt-ANSWER_LENGTH c = nothing-done _ _ _ _ (omega arith)
@@ -19,7 +18,7 @@ pub overflow_add-count : goal.overflow_add-count
 overflow_add-count c =
     let n = ap (λ (y : Performed). y.count) c.run-p.ensures.0 in
     let m = calls-most (length c.args.answers.now / 8 - 1) c.args.script.now in
-    omega (arith, n, m, (goal.at.overflow_add-count c).Start)
+    omega (arith, n, m, c)
 
 pub returns : goal.returns
 returns c =
