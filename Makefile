@@ -8,8 +8,8 @@ demo: lib
 test:
 	@sh scripts/test.sh
 
-# The folder build/lib, for C: libicepole_c.a, libburst_c.a and libcore_c.a, their headers icepole.h, burst.h and core.h, and icepole.pc, burst.pc and core.pc for
-# pkg-config. It can be moved.
+# The folder build/lib, for C: libicepole_c.a, libburst_c.a, libcard_c.a and libcore_c.a, their headers icepole.h, burst.h, card.h and core.h, and icepole.pc,
+# burst.pc, card.pc and core.pc for pkg-config. It can be moved.
 lib:
 	@sh scripts/lib.sh
 

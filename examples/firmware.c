@@ -106,8 +106,6 @@ static const char *refusal_text(uint32_t number)
         return "there is no such picture";
     case BURST_NO_CAMERA_NUMBER:
         return "the camera number is 0: it was not set";
-    case BURST_SHOT_COUNT:
-        return "a full burst has 1 to 60 shots";
     }
     return "a number that burst.h does not have";
 }

@@ -1,5 +1,5 @@
 /*
- * Burst files of trail cameras: sizing up, counting how many a card holds, recording, checking, reading back and listing.
+ * Burst files of trail cameras: sizing up, recording, checking, reading back and listing.
  *
  * The functions are written in Rattle and proved to meet their contracts (crates/burst_c). Link libburst_c.a, which `make lib`
  * leaves beside this header in build/lib. docs/FORMAT.md has the file byte by byte.
@@ -33,10 +33,9 @@
  * Nonces. They are made of burst number, camera number and shot number. Under one key, record each pair of camera number and burst number
  * once only, whatever became of the first burst: two bursts of one pair are sealed with the same nonces.
  *
- * Editions. burst_replay writes files of edition 2, and those are what burst_size_up sizes up and burst_card_line counts; the calls
- * that read take files of edition 1 too. Those have no camera number, and 0 stands for it in their nonces. So a burst of edition 2, whose
- * camera number is not 0, never shares a nonce with one of edition 1; but cameras that still write edition 1 must not share a key with
- * each other.
+ * Editions. burst_replay writes files of edition 2, and those are what burst_size_up sizes up; the calls that read take files of
+ * edition 1 too. Those have no camera number, and 0 stands for it in their nonces. So a burst of edition 2, whose camera number is
+ * not 0, never shares a nonce with one of edition 1; but cameras that still write edition 1 must not share a key with each other.
  */
 #ifndef BURST_H
 #define BURST_H
@@ -51,18 +50,17 @@ extern "C" {
 /* The refusal numbers, those of icepole.h among them. */
 enum burst_refusal {
     BURST_DONE = 0,
-    BURST_KEY_LENGTH = 1,        /* the key is not 16 bytes */
-    BURST_SECRET_LENGTH = 3,     /* stamp or site mark is not 16 bytes */
-    BURST_OUTPUT_TOO_SHORT = 5,  /* out, info or text is too short */
-    BURST_TAG_DIFFERS = 7,       /* mark 0: the file or the key is another; else the record of that shot was changed */
-    BURST_NOT_SOUND = 8,         /* the burst is closed, or its begin was refused */
-    BURST_FULL = 9,              /* 60 shots were taken, or more are planned */
-    BURST_PICTURE_LENGTH = 10,   /* a picture has 1 to 1,048,576 bytes */
+    BURST_KEY_LENGTH = 1,       /* the key is not 16 bytes */
+    BURST_SECRET_LENGTH = 3,    /* stamp or site mark is not 16 bytes */
+    BURST_OUTPUT_TOO_SHORT = 5, /* out, info or text is too short */
+    BURST_TAG_DIFFERS = 7,      /* mark 0: the file or the key is another; else the record of that shot was changed */
+    BURST_NOT_SOUND = 8,        /* the burst is closed, or its begin was refused */
+    BURST_FULL = 9,             /* 60 shots were taken, or more are planned */
+    BURST_PICTURE_LENGTH = 10,  /* a picture has 1 to 1,048,576 bytes */
     BURST_BUFFER_TOO_SHORT = 11,
-    BURST_FRONT_BROKEN = 12,     /* header, index or the file's length break a front rule */
-    BURST_NO_SUCH_PLACE = 13,    /* the place is not below the count of kept pictures */
-    BURST_NO_CAMERA_NUMBER = 15, /* the camera number is 0 */
-    BURST_SHOT_COUNT = 16        /* a full burst has 1 to 60 shots */
+    BURST_FRONT_BROKEN = 12,    /* header, index or the file's length break a front rule */
+    BURST_NO_SUCH_PLACE = 13,   /* the place is not below the count of kept pictures */
+    BURST_NO_CAMERA_NUMBER = 15 /* the camera number is 0 */
 };
 
 /* The bytes of a script that are calls. */
@@ -134,17 +132,6 @@ uint32_t burst_record(const uint8_t *key, size_t key_len,
  * before a length is looked at. Its time grows with count, and not with the lengths. */
 uint32_t burst_size_up(const uint64_t *lengths, size_t count,
                        uint64_t *file_length, uint64_t *p12, uint64_t *p6);
-
-/* Counts how many full bursts a card holds. card is its length in bytes; every burst has so many shots, all of them kept, with pictures of
- * so many bytes each. Writes
- *   *bursts  how many of their files, of the edition that burst_replay writes, fit on the card one behind the other
- *   *left    the bytes that are left then, fewer than such a file has
- * so that card = *bursts * file length + *left, where the file length is what burst_size_up says of such a burst. Refusals 16 for shots of
- * 0 or above 60, then 10 for a picture length of 0 or above 1,048,576. Where it refuses, both numbers are 0. shots and picture are judged
- * as the 64-bit numbers that they are. No card is refused: one of 0 bytes holds 0 bursts. The count is of files alone: what a file system
- * adds for each of them (clusters, directories) is not in it. */
-uint32_t burst_card_line(uint64_t card, uint64_t shots, uint64_t picture,
-                         uint64_t *bursts, uint64_t *left);
 
 /* Writes the listing of a file, as text, to the front of text and its length to *length: burst number, counts, and a line for each kept
  * picture. It needs no key and tests the front only, so a damaged seal does not matter. A file above 65,536 bytes gives

@@ -1,5 +1,5 @@
 #!/bin/sh
-# Proves and builds the three static libraries, and gathers in build/lib what C programs need: the libraries, their headers and a pkg-config file for each.
+# Proves and builds the static libraries, and gathers in build/lib what C programs need: the libraries, their headers and a pkg-config file for each.
 # The pkg-config files name the folder that they stand in, so the folder works from wherever it is moved.
 set -e
 cd "$(dirname "$0")/.."
@@ -19,12 +19,13 @@ END
 }
 
 mkdir -p build
-for name in icepole burst core; do
+for name in icepole burst card core; do
     echo "proving and building lib${name}_c.a (some minutes the first time)"
     sh scripts/build.sh "${name}_lib"
 done
 rm -rf $folder
 mkdir -p $folder
 gather icepole "ICEPOLE-128, 128a and 256a: authenticated encryption of whole messages and of strips"
-gather burst "Burst files of trail cameras: sizing up, counting how many a card holds, recording, checking, reading back and listing"
+gather burst "Burst files of trail cameras: sizing up, recording, checking, reading back and listing"
+gather card "How many full bursts of a trail camera a card holds, and the bytes left"
 gather core "For testing a hardware core of ICEPOLE: the log of its rounds judged, and the start of a chosen state"

@@ -211,8 +211,20 @@ size_up_counted() {
 }
 
 # No division in compiled code, neither as an instruction nor as a call of one: its time may depend on what is divided, and the source takes bytes of secrets
-# by division (docs/PROOFS.md, "What is trusted"). The function that is named first may divide: one that is given no secret. The other words are the files.
+# by division (docs/PROOFS.md, "What is trusted").
 no_division() {
+    if ! command -v objdump >/dev/null; then
+        echo "objdump is not here: no look for division"
+        return 0
+    fi
+    for file in "$@"; do
+        objdump -dr "$file" >build/objdump.log && grep -qw ret build/objdump.log || { echo "$file has no code to look through"; return 1; }
+        ! grep -E 'div|__u?mod' build/objdump.log || { echo "$file divides"; return 1; }
+    done
+}
+
+# The same, but that one function may divide: the first word is its name, and it is given no secret. Only lines of code are looked at, so that no name counts.
+no_division_but() {
     if ! command -v objdump >/dev/null; then
         echo "objdump is not here: no look for division"
         return 0
@@ -252,21 +264,32 @@ stack() {
     build/stack "$1"
 }
 
-# The same look at two short C functions that divide, where the other one may, or a third one that is not there.
+# The same look at two short C functions that divide.
 division_seen() {
     command -v objdump >/dev/null || { no_division; return; }
     for type in 'unsigned long' 'unsigned __int128'; do
+        echo "$type f($type x, $type y) { return x % y + 1; }" | gcc -O2 -x c -c - -o build/division.o || return 1
+        no_division build/division.o | grep -q 'divides$' || { echo "a division of $type passes"; return 1; }
+    done
+}
+
+# Both looks at two short C functions that divide, in a file whose name has no `div`; the one that lets a function divide where the other one may, or a third one
+# that is not there.
+other_division_seen() {
+    command -v objdump >/dev/null || { no_division_but none; return; }
+    for type in 'unsigned long' 'unsigned __int128'; do
         printf "$type %s($type x, $type y) { return x %% y + %s; }\n" f 1 g 2 | gcc -O2 -x c -c - -o build/quotient.o || return 1
+        no_division build/quotient.o | grep -q 'divides$' || { echo "a division of $type passes"; return 1; }
         for may in f g h; do
-            no_division "$may" build/quotient.o | grep -q 'divides$' || { echo "a division of $type passes"; return 1; }
+            no_division_but "$may" build/quotient.o | grep -q 'divides$' || { echo "a division of $type passes"; return 1; }
         done
     done
 }
 
 # That the one function may.
 division_allowed() {
-    command -v objdump >/dev/null || { no_division; return; }
-    echo 'unsigned long f(unsigned long x, unsigned long y) { return x % y + 1; }' | gcc -O2 -x c -c - -o build/quotient.o && no_division f build/quotient.o
+    command -v objdump >/dev/null || { no_division_but none; return; }
+    echo 'unsigned long f(unsigned long x, unsigned long y) { return x % y + 1; }' | gcc -O2 -x c -c - -o build/quotient.o && no_division_but f build/quotient.o
 }
 
 # Random cases with a new seed each time.
@@ -320,6 +343,7 @@ step "the programs that the Rust tests run" sh scripts/build.sh lister check_rou
 step "the C program of sealing" c_program tests/c_calls/c/roundtrip.c libicepole_c.a
 step "the C program of opening in place" c_program tests/c_calls/c/open_in_place.c libicepole_c.a
 step "the C program of bursts" c_program tests/burst_calls/c/record_and_read.c libburst_c.a
+step "the C program of cards" c_program tests/burst_calls/c/fill_cards.c libcard_c.a
 step "the C program of round logs" c_program tests/core_calls/c/check_logs.c libcore_c.a
 step "the C program of rounds" c_program tests/core_calls/c/drive_rounds.c libcore_c.a
 step "the example" example
@@ -329,12 +353,14 @@ step "the example of a chosen state" chosen_state
 step "the C program of sealing, sanitized" c_sanitized tests/c_calls/c/roundtrip.c libicepole_c.a
 step "the C program of opening in place, sanitized" c_sanitized tests/c_calls/c/open_in_place.c libicepole_c.a
 step "the C program of bursts, sanitized" c_sanitized tests/burst_calls/c/record_and_read.c libburst_c.a
+step "the C program of cards, sanitized" c_sanitized tests/burst_calls/c/fill_cards.c libcard_c.a
 step "the C program of round logs, sanitized" c_sanitized tests/core_calls/c/check_logs.c libcore_c.a
 step "the C program of rounds, sanitized" c_sanitized tests/core_calls/c/drive_rounds.c libcore_c.a
 step "the example, sanitized" c_sanitized examples/firmware.c libburst_c.a build/card.burst
 step "the example of a playback unit, sanitized" c_sanitized examples/playback.c "libburst_c.a libicepole_c.a" build/card.burst
 step "icepole from build/lib" moved_folder tests/c_calls/c/roundtrip.c icepole
 step "burst from build/lib" moved_folder examples/firmware.c burst build/card.burst
+step "card from build/lib" moved_folder tests/burst_calls/c/fill_cards.c card
 step "core from build/lib" moved_folder tests/core_calls/c/check_logs.c core
 step "instructions of a sealed block" block icepole128_seal 1850
 step "instructions of an opened block" block icepole128_open 3850
@@ -343,11 +369,13 @@ step "instructions of a P6" p6
 step "instructions of a round log" round_log_counted
 step "instructions of rounds back and forward" rounds_counted
 step "instructions of sizing up" size_up_counted
-step "no division in the libraries of sealing and of the core" no_division none build/lib/libicepole_c.a build/lib/libcore_c.a
-step "and in that of bursts none but of the card line" no_division burst_card_line build/lib/libburst_c.a
+step "no division in the libraries" no_division build/lib/libicepole_c.a build/lib/libburst_c.a build/lib/libcore_c.a
 step "and one that is there is seen" division_seen
+step "in the library of cards none but of the card line" no_division_but burst_card_line build/lib/libcard_c.a
+step "and one of another function is seen, by its code alone" other_division_seen
 step "and one that may be there passes" division_allowed
 step "memcpy and memset of the C library alone" wanted_names build/lib/libicepole_c.a build/lib/libburst_c.a build/lib/libcore_c.a
+step "and of the library of cards" wanted_names build/lib/libcard_c.a
 step "and what is more is seen" heap_seen
 step "stack of opening in place" stack 2048
 rust_tests tests

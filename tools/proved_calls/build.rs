@@ -9,7 +9,7 @@ fn main() {
     let folder = root.join("build/lib");
     println!("cargo:rerun-if-changed=build.rs");
     println!("cargo:rustc-link-search=native={}", folder.display());
-    for name in ["icepole_c", "burst_c", "core_c"] {
+    for name in ["icepole_c", "burst_c", "card_c", "core_c"] {
         let library = folder.join(format!("lib{name}.a"));
         println!("cargo:rerun-if-changed={}", library.display());
         if !library.is_file() {

@@ -5,7 +5,6 @@ ghost use Rattle.std.specs.Prelude.{◌≡◌, cond, length};
 ghost use Rattle.reader.specs.Reader.{check_mark, record_refusal, record_offset, record_bytes_in};
 ghost use Rattle.listing.specs.Listing.{list_refusal, list_answer, list_output};
 ghost use Rattle.sizing.specs.Sizing.{size_answer};
-ghost use Rattle.sizing.specs.Cards.{card_answer};
 ghost use Rattle.replay.specs.Replay.{list_of, whole_script, Replayed};
 ghost use Rattle.burst_c.specs.Calls.{check_call_refusal, check_call_info, fetch_call_refusal, fetch_call_output, fetch_call_info};
 ghost use Rattle.burst.specs.Layout.{identified};
@@ -103,19 +102,4 @@ pub extern "C" fn burst_size_up(
         (p6.new ≡ (size_answer lengths.now).p6) }
 {
     burst_c::burst_size_up(lengths, file_length, p12, p6)
-}
-
-#[unsafe(no_mangle)]
-pub extern "C" fn burst_card_line(
-    card: u64,
-    shots: u64,
-    picture: u64,
-    bursts: &mut u64,
-    left: &mut u64,
-) -> u32
-    ensures { (result ≡ (card_answer card shots picture).refusal) ×
-        (bursts.new ≡ (card_answer card shots picture).bursts) ×
-        (left.new ≡ (card_answer card shots picture).left) }
-{
-    burst_c::burst_card_line(card, shots, picture, bursts, left)
 }

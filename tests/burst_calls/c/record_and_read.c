@@ -1,8 +1,7 @@
 /* The scope paper's example burst, recorded, read back and sized up through the
    C calls as the firmware of camera 3 makes them: burst 7, drop, keep of 3
-   bytes, drop. Then cards, and how many full bursts each holds. Every buffer is
-   its own piece of the heap, exactly as long as it must be, so that a memory
-   checker sees a call that reads or writes past it. */
+   bytes, drop. Every buffer is its own piece of the heap, exactly as long as it
+   must be, so that a memory checker sees a call that reads or writes past it. */
 
 #include <stdio.h>
 #include <stdlib.h>
@@ -114,7 +113,6 @@ struct lent {
     uint8_t *check_info, *fetch_info, *out;
     uint32_t *mark, *offset, *size, *whole;
     uint64_t *file_length, *p12, *p6;
-    uint64_t *bursts, *left;
 };
 
 static struct lent lend(void)
@@ -137,8 +135,6 @@ static struct lent lend(void)
     l.file_length = wide_numbers(1);
     l.p12 = wide_numbers(1);
     l.p6 = wide_numbers(1);
-    l.bursts = wide_numbers(1);
-    l.left = wide_numbers(1);
     return l;
 }
 
@@ -161,8 +157,6 @@ static void give_back(struct lent *l)
     free(l->file_length);
     free(l->p12);
     free(l->p6);
-    free(l->bursts);
-    free(l->left);
 }
 
 /* Drop, keep, drop, close. */
@@ -603,54 +597,12 @@ static const char *size_plans(struct lent *l)
     return wrong;
 }
 
-/* Cards, shots and picture lengths, and what is said of them. */
-static const struct carton {
-    uint64_t card, shots, picture;
-    uint32_t refusal;
-    uint64_t bursts, left;
-} cartons[] = {
-    {0, 1, 1, BURST_DONE, 0, 0},
-    {116, 1, 1, BURST_DONE, 0, 116},
-    {117, 1, 1, BURST_DONE, 1, 0},
-    {2 * TOTAL - 1, 1, PICTURE, BURST_DONE, 1, TOTAL - 1},
-    {2 * TOTAL + 5, 1, PICTURE, BURST_DONE, 2, 5},
-    {UINT64_C(32000000000), 3, 250000, BURST_DONE, 42655, 48380},
-    {UINT64_MAX, 1, 1, BURST_DONE, UINT64_C(157664479262474800), 15},
-    {62917271, BURST_MAX_SHOTS, BURST_MAX_PICTURE_BYTES, BURST_DONE, 0, 62917271},
-    {UINT64_MAX, BURST_MAX_SHOTS, BURST_MAX_PICTURE_BYTES, BURST_DONE,
-     UINT64_C(293190462449), 32487},
-    {1000, 0, 1, BURST_SHOT_COUNT, 0, 0},
-    {1000, BURST_MAX_SHOTS + 1, 1, BURST_SHOT_COUNT, 0, 0},
-    {1000, (UINT64_C(1) << 32) + 1, 1, BURST_SHOT_COUNT, 0, 0},
-    {1000, 0, 0, BURST_SHOT_COUNT, 0, 0},
-    {1000, BURST_MAX_SHOTS + 1, BURST_MAX_PICTURE_BYTES + 1, BURST_SHOT_COUNT, 0, 0},
-    {0, 1, 0, BURST_PICTURE_LENGTH, 0, 0},
-    {1000, BURST_MAX_SHOTS, BURST_MAX_PICTURE_BYTES + 1, BURST_PICTURE_LENGTH, 0, 0},
-    {UINT64_MAX, 1, (UINT64_C(1) << 32) + 1, BURST_PICTURE_LENGTH, 0, 0},
-};
-
-static const char *fill_cards(struct lent *l)
-{
-    for (size_t i = 0; i < sizeof cartons / sizeof cartons[0]; i++) {
-        const struct carton *c = &cartons[i];
-        *l->bursts = FILL_WIDE;
-        *l->left = FILL_WIDE;
-        if (burst_card_line(c->card, c->shots, c->picture, l->bursts, l->left) !=
-                c->refusal ||
-            *l->bursts != c->bursts || *l->left != c->left) {
-            return c->refusal == BURST_DONE ? "what a card holds differs"
-                                            : "a card was not refused as it must be";
-        }
-    }
-    return NULL;
-}
-
 int main(void)
 {
     static const char *(*const steps[])(struct lent *) = {
         record, record_short, record_parts, record_no_call, record_begins,
         read_back, read_list, read_changed, read_cut, read_short,
-        size_and_record, size_plans, fill_cards,
+        size_and_record, size_plans,
     };
     struct lent l = lend();
     const char *wrong = NULL;

@@ -17,7 +17,7 @@ pub mod script;
 pub mod sizing;
 
 use lent::LentNumber;
-use proved_calls::burst;
+use proved_calls::{burst, card};
 use reference::burst::reader::RecordPart;
 use reference::burst::{CardLine, Size};
 
@@ -97,7 +97,7 @@ pub fn size_up(lengths: &[u64]) -> (u32, Size) {
 /// Number, and the two numbers written, of filling a card with full bursts.
 pub fn card_line(card: u64, shots: u64, picture: u64) -> (u32, CardLine) {
     let (mut bursts, mut left) = (LentNumber::default(), LentNumber::default());
-    let number = burst::card_line(card, shots, picture, bursts.lent(), left.lent());
+    let number = card::card_line(card, shots, picture, bursts.lent(), left.lent());
     let line = CardLine {
         bursts: bursts.after(),
         left: left.after(),

@@ -1,10 +1,9 @@
 //! The proved recorder writes the worked files of docs/FORMAT.md that are of
 //! edition 2, from the page's lists of calls. The proved reader reads all of
 //! them and refuses damaged copies and fronts without seals as the page says,
-//! the proved lister prints the page's texts, the page's plans have the sizes
-//! that it says, and its cards hold what it says.
+//! the proved lister prints the page's texts, and the page's plans have the
+//! sizes that it says.
 
-use burst_calls::cards::asked;
 use burst_calls::lent::Lent;
 use burst_calls::listing::{check_rooms, check_text, LIST_BYTES};
 use burst_calls::reading::{
@@ -12,7 +11,8 @@ use burst_calls::reading::{
 };
 use burst_calls::recording::Recording;
 use burst_calls::script::script_of;
-use burst_calls::{cards, check, fetch, list_front, record, replay, sizing};
+use burst_calls::sizing::check_answer;
+use burst_calls::{check, fetch, list_front, record, replay};
 use reference::burst::Call;
 use reference::page::{self, counting, damaged_copies, Recorded, WORKED};
 
@@ -91,16 +91,7 @@ fn begun() {
 #[test]
 fn plans() {
     for plan in page::plans() {
-        sizing::check_answer(&plan.lengths, plan.size, &|| format!("plan, {}", plan.what));
-    }
-}
-
-/// Number, bursts and left of the table of cards.
-#[test]
-fn cards() {
-    for row in page::cards() {
-        let asked = asked(row.card, row.shots, row.picture);
-        cards::check_answer(asked, row.line, &|| format!("card, {}", row.what));
+        check_answer(&plan.lengths, plan.size, &|| format!("plan, {}", plan.what));
     }
 }
 

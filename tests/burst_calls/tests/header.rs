@@ -111,7 +111,7 @@ fn calls_are_those_of_the_header() {
     let in_header = c_calls(&text("include/burst.h"));
     let in_rust = rust_calls(&text("tools/proved_calls/src/burst.rs"));
     assert_eq!(in_rust, in_header);
-    let names = "card_line check fetch list record replay size_up";
-    let names = names.split(' ').map(|name| format!("burst_{name}"));
+    let names = ["check", "fetch", "list", "record", "replay", "size_up"];
+    let names = names.map(|name| format!("burst_{name}"));
     assert!(in_header.into_keys().eq(names));
 }

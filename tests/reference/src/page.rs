@@ -1,6 +1,6 @@
 //! What stands on docs/FORMAT.md to be held true: its fenced blocks, each with
 //! a kind and a name, tables, each under a heading of its own, and bytes within
-//! its text.
+//! its text. So it is with the table of docs/CARDS.md.
 
 use std::fmt::Debug;
 use std::ops::Range;
@@ -10,6 +10,8 @@ use crate::burst::reader::RecordPart;
 use crate::burst::{Answer, Call, CardLine, Edition, Entry, Header, Size, EDITION_1, EDITION_2};
 
 const PAGE: &str = include_str!("../../../docs/FORMAT.md");
+
+const CARDS: &str = include_str!("../../../docs/CARDS.md");
 
 /// Kind, name and text of every fenced block.
 fn blocks() -> Vec<(&'static str, &'static str, &'static str)> {
@@ -162,11 +164,15 @@ fn record_part(number: u32, offset: usize, length: usize) -> RecordPart {
     }
 }
 
-/// The text under a heading, down to the next one.
-fn under(heading: &str) -> &'static str {
-    let found = PAGE.split_once(&format!("\n### {heading}\n"));
+/// The text under a heading of a page, down to the next one.
+fn under_of(page: &'static str, heading: &str) -> &'static str {
+    let found = page.split_once(&format!("\n### {heading}\n"));
     let text = found.unwrap_or_else(|| panic!("no heading {heading}")).1;
     text.split("\n#").next().unwrap()
+}
+
+fn under(heading: &str) -> &'static str {
+    under_of(PAGE, heading)
 }
 
 /// The headings among the examples that have a table under them.
@@ -180,9 +186,9 @@ pub fn tables() -> Vec<&'static str> {
         .collect()
 }
 
-/// The rows of the table under a heading, cell by cell.
-fn rows<const N: usize>(heading: &str) -> Vec<[&'static str; N]> {
-    let lines = under(heading).lines();
+/// The rows of the table under a heading of a page, cell by cell.
+fn rows_of<const N: usize>(page: &'static str, heading: &str) -> Vec<[&'static str; N]> {
+    let lines = under_of(page, heading).lines();
     let table = lines.filter(|line| line.starts_with('|')).skip(2);
     let cells = |line: &'static str| {
         let inner = line
@@ -194,6 +200,10 @@ fn rows<const N: usize>(heading: &str) -> Vec<[&'static str; N]> {
         cells.unwrap_or_else(|_| panic!("{count} columns: {line}"))
     };
     table.map(cells).collect()
+}
+
+fn rows<const N: usize>(heading: &str) -> Vec<[&'static str; N]> {
+    rows_of(PAGE, heading)
 }
 
 fn decimal<T: std::str::FromStr>(cell: &str) -> T {
@@ -483,6 +493,25 @@ fn lengths_of(cell: &str) -> Vec<u64> {
     parts.flat_map(lengths).collect()
 }
 
+pub fn plans() -> Vec<Plan> {
+    let plan = |[lengths, number, file_length, p12, p6, what]: [&'static str; 6]| {
+        let size = Size {
+            file_length: decimal(file_length),
+            p12: decimal(p12),
+            p6: decimal(p6),
+        };
+        let number = decimal(number);
+        // A refused call answers zeros.
+        assert_eq!(size == Size::default(), number != 0, "{lengths}");
+        Plan {
+            lengths: lengths_of(lengths),
+            size: if number == 0 { Ok(size) } else { Err(number) },
+            what,
+        }
+    };
+    rows("Plans").into_iter().map(plan).collect()
+}
+
 /// The answer, where the number is 0. A refused call answers zeros.
 fn answered<T: Debug + Default + PartialEq>(number: &str, answer: T) -> Result<T, u32> {
     match decimal(number) {
@@ -492,22 +521,6 @@ fn answered<T: Debug + Default + PartialEq>(number: &str, answer: T) -> Result<T
             Err(number)
         }
     }
-}
-
-pub fn plans() -> Vec<Plan> {
-    let plan = |[lengths, number, file_length, p12, p6, what]: [&'static str; 6]| {
-        let size = Size {
-            file_length: decimal(file_length),
-            p12: decimal(p12),
-            p6: decimal(p6),
-        };
-        Plan {
-            lengths: lengths_of(lengths),
-            size: answered(number, size),
-            what,
-        }
-    };
-    rows("Plans").into_iter().map(plan).collect()
 }
 
 /// A row of the table of cards, and what it holds or the refusal number.
@@ -534,7 +547,12 @@ pub fn cards() -> Vec<Card> {
             what,
         }
     };
-    rows("Cards").into_iter().map(card).collect()
+    rows_of(CARDS, "Cards").into_iter().map(card).collect()
+}
+
+/// Whether these words stand on the page of cards.
+pub fn cards_say(words: &str) -> bool {
+    CARDS.contains(words)
 }
 
 /// A row of the table of fronts: a file without seals, the first front rule

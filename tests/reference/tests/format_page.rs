@@ -1,8 +1,8 @@
 //! What docs/FORMAT.md shows is what the documents say: its tables of header,
 //! index entry and editions, its worked files and how they are recorded, what is
 //! read from them, from damaged copies and from fronts without seals, its plans
-//! and how they are sized up, its cards and what they hold, its listings, its
-//! vectors, its tables of the permutation, and the order of its front rules.
+//! and how they are sized up, its listings, its vectors, its tables of the
+//! permutation, and the order of its front rules.
 
 mod help;
 
@@ -16,7 +16,7 @@ use reference::burst::layout::{
 use reference::burst::lister::{list, LONGEST_LISTED};
 use reference::burst::plain::{run, Call};
 use reference::burst::reader::{check, fetch, front, record, Checked, Fetched};
-use reference::burst::{card_line, size_up, CardLine, Entry, Header, PlainBurst, Refusal, Size};
+use reference::burst::{size_up, Entry, Header, PlainBurst, Refusal, Size};
 use reference::page::{self, counting, damaged_copies, WORKED};
 use reference::page::{Damaged, Field, FrontRow, Part, Reading, Recorded, Stretch, Worked};
 use reference::permutation::{
@@ -84,7 +84,6 @@ fn no_other_tables() {
         "The third file",
         "Begins",
         "Plans",
-        "Cards",
         "Fronts",
     ];
     assert_eq!(page::tables(), held);
@@ -714,74 +713,6 @@ fn plans_at_random() {
         met.insert(size.err());
     }
     assert_eq!(met, BTreeSet::from([None, Some(9), Some(10)]));
-}
-
-// ---- cards
-
-/// What a card holds by the page's rule, in its order.
-fn card_by_rule(card: u64, shots: u64, picture: u64) -> Result<CardLine, u32> {
-    if shots == 0 || shots > 60 {
-        return Err(16);
-    }
-    if picture == 0 || picture > 1_048_576 {
-        return Err(10);
-    }
-    let length = 72 + shots * (picture + 44);
-    let (bursts, left) = (card / length, card % length);
-    Ok(CardLine { bursts, left })
-}
-
-#[test]
-fn every_card() {
-    let cards = page::cards();
-    assert_eq!(cards.len(), 20);
-    for row in &cards {
-        let given = card_line(row.card, row.shots, row.picture);
-        assert_eq!(given, row.line, "{row:?}");
-        let by_rule = card_by_rule(row.card, row.shots, row.picture);
-        assert_eq!(by_rule, row.line, "rule, {row:?}");
-    }
-    let numbers: BTreeSet<u32> = cards.iter().filter_map(|row| row.line.err()).collect();
-    assert_eq!(numbers, BTreeSet::from([10, 16]));
-}
-
-/// What the words beside the table say of file lengths is what sizing up says,
-/// and so is the sum in the text. A card of no bytes has its answer there too.
-#[test]
-fn remarks_on_cards() {
-    let mut lengths = Vec::new();
-    for row in page::cards() {
-        let words = row.what.strip_prefix("a file has ");
-        if let Some(length) = words.and_then(|words| words.strip_suffix(" bytes")) {
-            let size = size_up(&vec![row.picture; row.shots as usize]).unwrap();
-            assert_eq!(length, size.file_length.to_string(), "{row:?}");
-            let sum = 72 + row.shots * (row.picture + 44);
-            assert_eq!(sum, size.file_length, "{row:?}");
-            lengths.push(sum as usize);
-        }
-    }
-    assert_eq!(lengths, [117, 416, file_lengths(EDITION_2).1, 750_204]);
-    assert!(page::says("\n    72 + shots * (picture length + 44)\n"));
-    let CardLine { bursts, left } = card_line(0, 1, 1).unwrap();
-    let words = format!("one of 0 bytes has an answer, bursts {bursts} and left {left}.");
-    assert!(page::says(&words), "{words}");
-}
-
-/// The page's rule, on cards of every magnitude, some of them refused.
-#[test]
-fn cards_at_random() {
-    let mut generator = SplitMix64::new(16);
-    let mut met = BTreeSet::new();
-    for _ in 0..10_000 {
-        let card = generator.next_word() >> generator.below(64);
-        let shots = generator.below(63) as u64;
-        let picture = (generator.next_word() % 1_100_000) >> generator.below(20);
-        let line = card_by_rule(card, shots, picture);
-        let given = card_line(card, shots, picture);
-        assert_eq!(given, line, "{card}, {shots} of {picture}");
-        met.insert(line.err());
-    }
-    assert_eq!(met, BTreeSet::from([None, Some(10), Some(16)]));
 }
 
 // ---- fronts without seals

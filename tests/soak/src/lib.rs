@@ -94,7 +94,7 @@ pub fn try_case(seed: u64, tally: &mut Tally) {
     let generator = &mut generator;
     let variant = Variant::ALL[generator.below(3)];
     let what = || format!("seed {seed}");
-    let read = match generator.below(31) {
+    let read = match generator.below(30) {
         0..4 => {
             good_case(generator, variant);
             tally.add("seal", 0);
@@ -110,14 +110,21 @@ pub fn try_case(seed: u64, tally: &mut Tally) {
         21 => return try_rounds(generator, &what, tally),
         22..25 => return tally.add("open_in_place", open_in_place_call(generator, variant)),
         25 => return tally.add("size_up", size_call(generator, &what)),
-        26 => return tally.add("card_line", card_call(generator, &what)),
-        27..30 => read_call(generator, &what),
+        26..29 => read_call(generator, &what),
         _ => front_call(generator, &what),
     };
     let names = ["check", "fetch", "record", "list", "edition"];
     for (name, number) in names.into_iter().zip(read) {
         tally.add(name, number);
     }
+}
+
+/// The case of a seed for the card line alone. It panics where the call and the
+/// reference differ.
+pub fn try_card(seed: u64, tally: &mut Tally) {
+    let mut generator = SplitMix64::new(seed);
+    let what = || format!("card of seed {seed}");
+    tally.add("card_line", card_call(&mut generator, &what));
 }
 
 /// Tries `count` cases, the first with this seed and each next with one more.

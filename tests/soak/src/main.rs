@@ -20,18 +20,13 @@ fn arguments() -> Option<(u64, u64)> {
     }
 }
 
-fn main() {
-    let Some((count, seed)) = arguments() else {
-        eprintln!("soak COUNT [SEED], both as decimal numbers below 2 to the 64th");
-        exit(2);
-    };
-    println!("seed {seed}, {count} cases");
-    match soak::run(seed, count, soak::try_case) {
+/// Tries cases, and prints how often each call gave each number.
+fn try_all(seed: u64, count: u64, case: fn(u64, &mut soak::Tally)) {
+    match soak::run(seed, count, case) {
         Ok(tally) => {
             for line in tally.lines() {
                 println!("{line}");
             }
-            println!("{count} cases, 0 differ");
         }
         Err(differs) => {
             let tried = differs.wrapping_sub(seed);
@@ -40,4 +35,16 @@ fn main() {
             exit(1);
         }
     }
+}
+
+fn main() {
+    let Some((count, seed)) = arguments() else {
+        eprintln!("soak COUNT [SEED], both as decimal numbers below 2 to the 64th");
+        exit(2);
+    };
+    println!("seed {seed}, {count} cases");
+    try_all(seed, count, soak::try_case);
+    // A card for every thirty of them, besides, and one for a case alone.
+    try_all(seed, count.div_ceil(30), soak::try_card);
+    println!("{count} cases, 0 differ");
 }

@@ -10,10 +10,9 @@ use soak::{run, try_case};
 /// one buffer. List's 12 is the text `front 12`. Whole says of a script whether all
 /// of it was performed, agrees of a round log whether every round does, and edition
 /// which one a file has that check accepted, or 0.
-const EXPECTED: [(&str, &[u32]); 22] = [
+const EXPECTED: [(&str, &[u32]); 21] = [
     ("agrees", &[0, 1]),
     ("begin", &[0, 1, 3, 11, 15]),
-    ("card_line", &[0, 10, 16]),
     ("check", &[0, 1, 5, 7, 12]),
     ("check_log", &[0, 19]),
     ("close", &[0, 8]),

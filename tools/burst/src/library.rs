@@ -1,10 +1,11 @@
-//! The calls of include/burst.h, with their answers taken apart.
+//! The calls of include/burst.h and include/card.h, with their answers taken apart.
 
 use proved_calls::burst::{self, CHECK_INFO_BYTES, FETCH_INFO_BYTES, LIST_BYTES};
 pub use proved_calls::burst::{ANSWER_BYTES, MAX_PICTURE_BYTES, MAX_SHOTS};
 pub use proved_calls::burst::{CALL_CLOSE, CALL_DROP, CALL_KEEP};
 pub use proved_calls::burst::{KEY_BYTES, SITE_MARK_BYTES, STAMP_BYTES};
 pub use proved_calls::burst::{MIN_READ_BYTES, MIN_WRITTEN_BYTES};
+use proved_calls::card;
 
 /// An index entry.
 pub const ENTRY_BYTES: usize = 12;
@@ -151,7 +152,7 @@ pub fn size_up(lengths: &[u64]) -> Result<Size, Refused> {
 /// shots with pictures of one length.
 pub fn card_line(card: u64, shots: u64, picture: u64) -> Result<CardLine, Refused> {
     let (mut bursts, mut left) = (0, 0);
-    let number = burst::card_line(card, shots, picture, &mut bursts, &mut left);
+    let number = card::card_line(card, shots, picture, &mut bursts, &mut left);
     if number != 0 {
         return Err(Refused { number, mark: 0 });
     }

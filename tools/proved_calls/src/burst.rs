@@ -87,14 +87,6 @@ extern "C" {
         p12: *mut u64,
         p6: *mut u64,
     ) -> u32;
-
-    fn burst_card_line(
-        card: u64,
-        shots: u64,
-        picture: u64,
-        bursts: *mut u64,
-        left: *mut u64,
-    ) -> u32;
 }
 
 /// Begin and the calls of a script on a buffer: the count of answers written.
@@ -215,10 +207,4 @@ pub fn list(file: &[u8], text: &mut [u8], length: &mut u32) -> u32 {
 pub fn size_up(lengths: &[u64], file_length: &mut u64, p12: &mut u64, p6: &mut u64) -> u32 {
     // SAFETY: see the head of the package; it writes to file_length, p12 and p6.
     unsafe { burst_size_up(lengths.as_ptr(), lengths.len(), file_length, p12, p6) }
-}
-
-/// How many full bursts a card holds, and the bytes left: the refusal number.
-pub fn card_line(card: u64, shots: u64, picture: u64, bursts: &mut u64, left: &mut u64) -> u32 {
-    // SAFETY: see the head of the package; it writes to bursts and left.
-    unsafe { burst_card_line(card, shots, picture, bursts, left) }
 }

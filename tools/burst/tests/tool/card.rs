@@ -1,6 +1,7 @@
 //! How many full bursts a card holds.
 
 use crate::folder::{picture, Folder, Run};
+use crate::names::{self, check_shown};
 use std::ffi::OsStr;
 use std::os::unix::ffi::OsStrExt;
 
@@ -247,6 +248,105 @@ fn a_picture_of_0_or_above_1048576_bytes_is_10() {
             }
         }
     }
+}
+
+/// A line of `card` that is right.
+const CARD: &str = "card --bytes 32G --shots 10 --picture 5";
+
+/// What is put in place of a part of that line, and what is said then.
+const WRONG_CARD: [(&str, &str, &str); 22] = [
+    ("--bytes 32G ", "", "--bytes is missing"),
+    ("--shots 10 ", "", "--shots is missing"),
+    (" --picture 5", "", "--picture is missing"),
+    ("--shots", "--bytes 32G --shots", "--bytes is given twice"),
+    ("--shots", "--shots 10 --shots", "--shots is given twice"),
+    ("--shots", "--picture 5 --shots", "--picture is given twice"),
+    ("--bytes", "--bytes 32 --bytes", "--bytes is given twice"),
+    (
+        "32G",
+        "32 G",
+        "G stands alone; --bytes N --shots S --picture P",
+    ),
+    ("32G", "32 G", "with no space before a unit"),
+    ("--bytes 32G", "32G", "32G stands alone"),
+    (" 5", " 5 -", "- stands alone"),
+    ("32G ", "", "--bytes wants N, and finds --shots"),
+    ("10 ", "", "--shots wants S, and finds --picture"),
+    (" 5", "", "--picture wants P after it"),
+    (
+        "--bytes 32G",
+        "--bytes=32G",
+        "there is no option --bytes=32G",
+    ),
+    ("--shots", "--key key --shots", "there is no option --key"),
+    ("10", "-1", "--shots wants decimal digits, not `-1`"),
+    ("10", "", "--shots wants decimal digits, not ``"),
+    ("5", "5K", "--picture wants decimal digits, not `5K`"),
+    ("5", "+5", "--picture wants decimal digits, not `+5`"),
+    // Cut to 64 bits, they would be 1.
+    (
+        "10",
+        "18446744073709551617",
+        "--shots 18446744073709551617 is above 18446744073709551615",
+    ),
+    (
+        "5",
+        "18446744073709551617",
+        "--picture 18446744073709551617 is above 18446744073709551615",
+    ),
+];
+
+#[test]
+fn wrong_command_lines_of_card_are_64() {
+    let folder = Folder::new();
+    for (part, other, words) in WRONG_CARD {
+        let line = CARD.replacen(part, other, 1);
+        let run = folder.say(&line).failed(64, &[words, "--help` shows"]);
+        assert_eq!(run.out, "", "{line}");
+    }
+    folder.check_nothing_new();
+    folder.say(CARD).done();
+}
+
+#[test]
+fn wrong_lines_of_card_show_words_filtered() {
+    let folder = Folder::new();
+    for line in [
+        "card EVIL",
+        "card --EVIL",
+        "card --bytes EVIL --shots 5 --picture 5",
+        "card --bytes 5EVIL --shots 5 --picture 5",
+        "card --bytes 5 --shots EVIL --picture 5",
+        "card --bytes 5 --shots 5 --picture EVIL",
+    ] {
+        check_shown(names::say(&folder, line), 64, line);
+    }
+}
+
+#[test]
+fn help_names_card_and_its_status() {
+    let folder = Folder::new();
+    let help = folder.say("--help").done();
+    assert!(help.contains("\n  burst card "), "{help}");
+    let status = help.lines().any(|line| line.starts_with("  16  "));
+    assert!(status, "{help}");
+    let own = folder.say("card --help").done();
+    assert!(own.starts_with("burst card "), "{own}");
+    assert_eq!(own, folder.say("card -h").done());
+}
+
+#[test]
+fn help_of_card_tells_what_a_user_may_trip_over() {
+    let help = Folder::new().say("card --help").done();
+    for words in [
+        "32G counts bursts that it does not hold",
+        "What a file system takes is not in the count",
+        "Each file also takes the whole of\nits last cluster",
+        "refused with 16, and else a length",
+    ] {
+        assert!(help.contains(words), "{words}: {help}");
+    }
+    assert!(help.lines().all(|line| line.len() <= 90), "{help}");
 }
 
 #[test]

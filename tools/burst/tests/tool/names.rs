@@ -12,7 +12,7 @@ const EVIL: &str = "a\u{1b}[31m\u{202e}\nburst: done\u{200b}\u{7}b\u{9b}2J\\";
 const SHOWN: &str = "a\\u{1b}[31m\\u{202e}\\nburst: done\\u{200b}\\u{7}b\\u{9b}2J\\\\";
 
 /// The tool shows the name, and nothing that a terminal would obey.
-fn check_shown(run: Run, status: i32, line: &str) {
+pub(crate) fn check_shown(run: Run, status: i32, line: &str) {
     assert_eq!(run.status, status, "{line}: {}{}", run.out, run.err);
     let text = format!("{}{}", run.out, run.err);
     assert!(text.contains(SHOWN), "{line}: {text}");
@@ -23,7 +23,7 @@ fn check_shown(run: Run, status: i32, line: &str) {
 }
 
 /// Runs the line, in which `EVIL` stands for the name.
-fn say(folder: &Folder, line: &str) -> Run {
+pub(crate) fn say(folder: &Folder, line: &str) -> Run {
     let words: Vec<String> = line
         .split(' ')
         .map(|word| word.replace("EVIL", EVIL))
@@ -44,12 +44,6 @@ fn wrong_lines_show_words_filtered() {
         "fetch --key key --place EVIL --out out 7.burst",
         "size 5 EVIL",
         "size --EVIL",
-        "card EVIL",
-        "card --EVIL",
-        "card --bytes EVIL --shots 5 --picture 5",
-        "card --bytes 5EVIL --shots 5 --picture 5",
-        "card --bytes 5 --shots EVIL --picture 5",
-        "card --bytes 5 --shots 5 --picture EVIL",
         &RECORD.replace(" 7", " EVIL"),
         &RECORD.replace(" 3", " EVIL"),
         &RECORD.replace(" x", " hex:EVIL"),

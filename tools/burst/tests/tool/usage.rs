@@ -2,9 +2,7 @@
 
 use crate::folder::{Folder, NOTE, SITE_MARK};
 
-const COMMANDS: [&str; 7] = [
-    "record", "list", "check", "fetch", "explain", "size", "card",
-];
+const COMMANDS: [&str; 6] = ["record", "list", "check", "fetch", "explain", "size"];
 
 /// Wrong lines, and what is said of each.
 const WRONG: [(&str, &str); 28] = [
@@ -67,10 +65,8 @@ const WRONG: [(&str, &str); 28] = [
 /// A line of `record` that is right, without shots.
 const RECORD: &str = "record --key key --number 7 --camera 3 --site-mark x --out out.burst";
 
-/// A part of a line, what is put in its place, and what is said then.
-type Wrong = (&'static str, &'static str, &'static str);
-
-const WRONG_RECORD: [Wrong; 17] = [
+/// What is put in place of a part of that line, and what is said then.
+const WRONG_RECORD: [(&str, &str, &str); 17] = [
     ("--out", "--number 8 --out", "--number is given twice"),
     (
         "--number 7",
@@ -119,51 +115,6 @@ const WRONG_RECORD: [Wrong; 17] = [
     ),
 ];
 
-/// A line of `card` that is right.
-const CARD: &str = "card --bytes 32G --shots 10 --picture 5";
-
-const WRONG_CARD: [Wrong; 22] = [
-    ("--bytes 32G ", "", "--bytes is missing"),
-    ("--shots 10 ", "", "--shots is missing"),
-    (" --picture 5", "", "--picture is missing"),
-    ("--shots", "--bytes 32G --shots", "--bytes is given twice"),
-    ("--shots", "--shots 10 --shots", "--shots is given twice"),
-    ("--shots", "--picture 5 --shots", "--picture is given twice"),
-    ("--bytes", "--bytes 32 --bytes", "--bytes is given twice"),
-    (
-        "32G",
-        "32 G",
-        "G stands alone; --bytes N --shots S --picture P",
-    ),
-    ("32G", "32 G", "with no space before a unit"),
-    ("--bytes 32G", "32G", "32G stands alone"),
-    (" 5", " 5 -", "- stands alone"),
-    ("32G ", "", "--bytes wants N, and finds --shots"),
-    ("10 ", "", "--shots wants S, and finds --picture"),
-    (" 5", "", "--picture wants P after it"),
-    (
-        "--bytes 32G",
-        "--bytes=32G",
-        "there is no option --bytes=32G",
-    ),
-    ("--shots", "--key key --shots", "there is no option --key"),
-    ("10", "-1", "--shots wants decimal digits, not `-1`"),
-    ("10", "", "--shots wants decimal digits, not ``"),
-    ("5", "5K", "--picture wants decimal digits, not `5K`"),
-    ("5", "+5", "--picture wants decimal digits, not `+5`"),
-    // Cut to 64 bits, they would be 1.
-    (
-        "10",
-        "18446744073709551617",
-        "--shots 18446744073709551617 is above 18446744073709551615",
-    ),
-    (
-        "5",
-        "18446744073709551617",
-        "--picture 18446744073709551617 is above 18446744073709551615",
-    ),
-];
-
 #[test]
 fn wrong_command_lines_are_64() {
     let folder = Folder::new();
@@ -172,16 +123,13 @@ fn wrong_command_lines_are_64() {
         let run = folder.say(line).failed(64, &[words, "--help` shows"]);
         assert_eq!(run.out, "", "{line}");
     }
-    for (right, wrong) in [(RECORD, &WRONG_RECORD[..]), (CARD, &WRONG_CARD)] {
-        for (part, other, words) in wrong {
-            let line = right.replacen(part, other, 1);
-            let run = folder.say(&line).failed(64, &[words, "--help` shows"]);
-            assert_eq!(run.out, "", "{line}");
-        }
+    for (part, other, words) in WRONG_RECORD {
+        let line = RECORD.replacen(part, other, 1);
+        let run = folder.say(&line).failed(64, &[words, "--help` shows"]);
+        assert_eq!(run.out, "", "{line}");
     }
     folder.check_nothing_new();
     folder.say(RECORD).done();
-    folder.say(CARD).done();
 }
 
 #[test]
@@ -195,7 +143,7 @@ fn help_names_every_command_and_status() {
         assert!(own.starts_with(&format!("burst {command} ")), "{own}");
         assert_eq!(own, folder.run(&[command, "-h"]).done());
     }
-    for status in [0, 1, 3, 7, 9, 10, 12, 13, 15, 16, 64, 65, 73, 74] {
+    for status in [0, 1, 3, 7, 9, 10, 12, 13, 15, 64, 65, 73, 74] {
         let found = help
             .lines()
             .any(|line| line.starts_with(&format!("  {status:<2}  ")));
@@ -262,16 +210,6 @@ fn help_tells_what_a_user_may_trip_over() {
             "size --help",
             "this machine alone: a camera takes its own time",
         ),
-        ("card --help", "32G counts bursts that it does not hold"),
-        (
-            "card --help",
-            "What a file system takes is not in the count",
-        ),
-        (
-            "card --help",
-            "Each file also takes the whole of\nits last cluster",
-        ),
-        ("card --help", "refused with 16, and else a length"),
     ] {
         let help = folder.say(line).done();
         assert!(help.contains(words), "{words}: {help}");
