@@ -60,7 +60,9 @@ fn remarks_on_cards() {
         }
     }
     assert_eq!(lengths, [117, 416, longest_file(), 750_204]);
-    assert!(page::cards_say("\n    72 + shots * (picture length + 44)\n"));
+    assert!(page::cards_say(
+        "\n    72 + shots * (picture length + 44)\n"
+    ));
     let CardLine { bursts, left } = card_line(0, 1, 1).unwrap();
     let words = format!("one of 0 bytes has an answer, bursts {bursts} and left {left}.");
     assert!(page::cards_say(&words), "{words}");

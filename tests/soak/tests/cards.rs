@@ -18,7 +18,9 @@ fn cards_are_tried_beside() {
     for (count, cards) in [("0", 0), ("1", 1), ("30", 1), ("31", 2), ("3000", 100)] {
         let output = Command::new(program).args([count, "12"]).output().unwrap();
         let text = String::from_utf8(output.stdout).unwrap();
-        let line = text.lines().find_map(|line| line.strip_prefix("card_line:"));
+        let line = text
+            .lines()
+            .find_map(|line| line.strip_prefix("card_line:"));
         let words = line.unwrap_or_default().split_whitespace();
         // `0 x 3` is the number 0 three times.
         let times = words.skip(2).step_by(3).map(|times| times.parse::<u32>());
