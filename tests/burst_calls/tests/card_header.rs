@@ -2,17 +2,23 @@
 
 use std::path::Path;
 
-/// A file of the repository, with one blank where it has several or a new line.
+/// The text of a file of the repository.
 fn text(name: &str) -> String {
     let root = Path::new(env!("CARGO_MANIFEST_DIR")).join("../..");
-    let text = std::fs::read_to_string(root.join(name)).unwrap();
+    std::fs::read_to_string(root.join(name)).unwrap()
+}
+
+/// One blank where the text has several, or a new line.
+fn in_one_line(text: &str) -> String {
     text.split_whitespace().collect::<Vec<_>>().join(" ")
 }
 
-/// The code of a C header, without its comments.
-fn without_comments(header: &str) -> String {
-    let parts = header.split("*/");
-    parts.map(|part| part.split("/*").next().unwrap()).collect()
+/// The code of the header, without its comments.
+fn header() -> String {
+    let text = text("include/card.h");
+    let parts = text.split("*/");
+    let code: String = parts.map(|part| part.split("/*").next().unwrap()).collect();
+    in_one_line(&code)
 }
 
 const IN_C: &str = "uint32_t burst_card_line(uint64_t card, uint64_t shots, uint64_t picture, \
@@ -23,10 +29,10 @@ const IN_RUST: &str = "extern \"C\" { fn burst_card_line( card: u64, shots: u64,
 
 #[test]
 fn call_is_that_of_the_header() {
-    let header = without_comments(&text("include/card.h"));
+    let header = header();
     let (before, after) = header.split_once(IN_C).unwrap();
     assert!(!before.contains('(') && !after.contains('('), "{header}");
-    let code = text("tools/proved_calls/src/card.rs");
+    let code = in_one_line(&text("tools/proved_calls/src/card.rs"));
     assert_eq!(code.matches("extern").count(), 1);
     assert!(code.contains(IN_RUST), "{code}");
 }
@@ -34,7 +40,7 @@ fn call_is_that_of_the_header() {
 /// The number of the refusal that burst.h does not have.
 #[test]
 fn number_of_the_header() {
-    let header = without_comments(&text("include/card.h"));
+    let header = header();
     let numbers = "enum burst_card_refusal { BURST_SHOT_COUNT = 16 };";
     assert!(header.contains(numbers), "{header}");
     assert_eq!(header.matches('=').count(), 1);

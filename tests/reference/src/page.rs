@@ -165,30 +165,30 @@ fn record_part(number: u32, offset: usize, length: usize) -> RecordPart {
 }
 
 /// The text under a heading of a page, down to the next one.
-fn under_of(page: &'static str, heading: &str) -> &'static str {
+fn under(page: &'static str, heading: &str) -> &'static str {
     let found = page.split_once(&format!("\n### {heading}\n"));
     let text = found.unwrap_or_else(|| panic!("no heading {heading}")).1;
     text.split("\n#").next().unwrap()
 }
 
-fn under(heading: &str) -> &'static str {
-    under_of(PAGE, heading)
-}
-
-/// The headings among the examples that have a table under them.
-pub fn tables() -> Vec<&'static str> {
-    let (_, examples) = PAGE.split_once("\n## Examples\n").unwrap();
+/// The headings among the examples of a page that have a table under them.
+fn tables_of(page: &'static str) -> Vec<&'static str> {
+    let (_, examples) = page.split_once("\n## Examples\n").unwrap();
     let headings = examples
         .lines()
         .filter_map(|line| line.strip_prefix("### "));
     headings
-        .filter(|heading| under(heading).contains("\n|"))
+        .filter(|heading| under(page, heading).contains("\n|"))
         .collect()
+}
+
+pub fn tables() -> Vec<&'static str> {
+    tables_of(PAGE)
 }
 
 /// The rows of the table under a heading of a page, cell by cell.
 fn rows_of<const N: usize>(page: &'static str, heading: &str) -> Vec<[&'static str; N]> {
-    let lines = under_of(page, heading).lines();
+    let lines = under(page, heading).lines();
     let table = lines.filter(|line| line.starts_with('|')).skip(2);
     let cells = |line: &'static str| {
         let inner = line
@@ -548,6 +548,11 @@ pub fn cards() -> Vec<Card> {
         }
     };
     rows_of(CARDS, "Cards").into_iter().map(card).collect()
+}
+
+/// The headings of the page of cards that have a table under them.
+pub fn card_tables() -> Vec<&'static str> {
+    tables_of(CARDS)
 }
 
 /// Whether these words stand on the page of cards.

@@ -25,6 +25,12 @@ fn card_by_rule(card: u64, shots: u64, picture: u64) -> Result<CardLine, u32> {
 }
 
 #[test]
+fn no_other_tables_and_no_blocks() {
+    assert_eq!(page::card_tables(), ["Cards"]);
+    assert!(!page::cards_say("\n```"));
+}
+
+#[test]
 fn every_card() {
     let cards = page::cards();
     assert_eq!(cards.len(), 20);
