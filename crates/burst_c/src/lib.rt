@@ -1,4 +1,4 @@
-// The C calls of include/burst.h.
+// The C calls of include/burst.h and include/card.h.
 #![tactic(auto)]
 
 ghost use Rattle.std.specs.Prelude.{◌≡◌, cond, ◌≤◌, length};
