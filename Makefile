@@ -34,6 +34,12 @@ lister:
 	@sh scripts/build.sh lister >&2
 	@cp crates/lister/out/lister build/lister
 
+# Tries every must-fail edit and looks at the whole first error of each, of which `rt ci` prints one line: `make edits` or `make edits CRATES="burst reader"`.
+.PHONY: edits
+CRATES =
+edits:
+	@python3 scripts/edits.py $(CRATES)
+
 # Times the proved code against C and OpenSSL, counts its instructions, and writes the figures of docs/BENCHMARKS.md and docs/benchmarks.svg.
 bench:
 	@sh bench/run.sh

@@ -26,14 +26,14 @@ crates_listed() {
     return $status
 }
 
-# The last line 'N passed, M failed' of rt ci, with perhaps more in brackets. A run without one, or whose exit status and line disagree, is a failure.
+# The last line 'N passed, M failed' of rt ci. A run without one, or whose exit status and line disagree, is a failure.
 prove() {
     rt ci >build/rt-ci.log 2>&1
     status=$?
     grep -E '^rt: |NOT PROVED|error' build/rt-ci.log | cut -c1-200
     line=$(tail -n 1 build/rt-ci.log)
-    n=$(echo "$line" | sed -n 's/^\([0-9][0-9]*\) passed, \([0-9][0-9]*\) failed\( (.*)\)\{0,1\} *$/\1/p')
-    m=$(echo "$line" | sed -n 's/^\([0-9][0-9]*\) passed, \([0-9][0-9]*\) failed\( (.*)\)\{0,1\} *$/\2/p')
+    n=$(echo "$line" | sed -n 's/^\([0-9][0-9]*\) passed, \([0-9][0-9]*\) failed$/\1/p')
+    m=$(echo "$line" | sed -n 's/^\([0-9][0-9]*\) passed, \([0-9][0-9]*\) failed$/\2/p')
     passed=$((passed + ${n:-0}))
     failed=$((failed + ${m:-0}))
     if [ -z "$n" ] || { [ "$status" -ne 0 ] && [ "$m" -eq 0 ]; } || { [ "$status" -eq 0 ] && [ "$m" -ne 0 ]; } || [ "$((n + m))" -eq 0 ]; then
