@@ -13,5 +13,5 @@ for name in "$@"; do
         rt run <"$input" >"$root/build/$name.stdout" 2>"$log" && diff stdout "$root/build/$name.stdout" >>"$log"
     else
         rt lib >"$log" 2>&1
-    fi || { cat "$log"; exit 1; }
+    fi && grep -q '^logic=proved ' "$log" || { cat "$log"; exit 1; }
 done
