@@ -9,91 +9,89 @@ use borrow.Author.Tests.{le-leb, leb-true, ne_eqb}
 use lib.Dec.{leb}
 use lib.ListN.{length, replicate, take, drop, length-append}
 use Rattle.bytes_le.specs.Bytes.{Bytes, put_bytes, same}
-use Rattle.icepole.specs.Answers.{fits_output, open_answer, open_length, open_number, open_output, open_refusal, opened_answer, tag_agrees}
-use Rattle.icepole.specs.Answers.{seal_answer, seal_number, seal_output, seal_refusal, sealed_answer}
+use Rattle.icepole.specs.Answers.{fits_output, open_answer, open_length, open_number, open_output, open_refusal, opened_answer, opened_as, tag_agrees}
+use Rattle.icepole.specs.Answers.{seal_answer, seal_number, seal_output, seal_refusal, sealed_as}
+use Rattle.refusals.specs.declared.Refusal.{Refusal}
+use Rattle.refusals.specs.declared.Refusal.TheVariants.{TagDiffers}
+use Rattle.refusals.specs.Numbers.{number, mark}
+use Rattle.refusals.proofs.Laws.{positive}
+use Rattle.std.specs.Prelude.{Ok, Err}
 use Rattle.blocks.specs.Bounds.{Bounded}
 use Rattle.blocks.specs.Sealing.{decrypt, expected_tag, message_of, ready_of, sealed, secret_of, tag_part}
 use Rattle.icepole.specs.Variants.{sizes}
-use Rattle.icepole.specs.declared.Opened.{Opened}
+use Rattle.icepole.specs.Answers.{Opened}
 use Rattle.blocks.specs.declared.Sizes.{Sizes}
 use Rattle.icepole.specs.declared.Variant.{Variant}
 use Rattle.blocks.proofs.Whole.{whole}
 use Rattle.icepole.proofs.Numbers.{OpenFits, open-decides, open-fits, open-stands}
 
 -- ---- sealing
-module _ (v : Variant) (q : Sizes) (eq : q ≡ sizes v) (k n s f g m o : Bytes) (num : ℕ)
-    (e : num ≡ seal_number q (length k) (length n) (length s) (length f + length g) (length m) (length o)) where
-  is-refusal : seal_refusal v k n s (f ++ g) m o ≡ num
+module _ (v : Variant) (k n s f g m o : Bytes) where
+  is-refusal : seal_refusal v k n s (f ++ g) m o ≡ seal_number (sizes v) (length k) (length n) (length s) (length f + length g) (length m) (length o)
   unfolding seal_refusal
-  is-refusal =
-      sym
-      (e
-      ∙ ap₂ (λ (q : Sizes) (a : ℕ). seal_number q (length k) (length n) (length s) a (length m) (length o)) eq (sym (length-append f g)))
+  is-refusal = ap (λ (a : ℕ). seal_number (sizes v) (length k) (length n) (length s) a (length m) (length o)) (length-append f g)
 
-  pub seal-refused : (num ≡ 0 → ⊥)
-      → (record { refusal = num; mark = 0; count = 0 } ≡ seal_answer v k n s (f ++ g) m o) × (o ≡ seal_output v k n s (f ++ g) m o)
+  pub seal-refused : (e : Refusal) → number e ≡ seal_number (sizes v) (length k) (length n) (length s) (length f + length g) (length m) (length o) → mark e ≡ 0
+      → (sealed_as (Err e) ≡ seal_answer v k n s (f ++ g) m o) × (o ≡ seal_output v k n s (f ++ g) m o)
   unfolding seal_answer seal_output
-  seal-refused h = let z = ne_eqb num 0 h in (sym (simp (is-refusal, z)), sym (simp (is-refusal, z)))
+  seal-refused e en em =
+      let w = is-refusal ∙ sym en in
+      let z = ne_eqb (number e) 0 (λ i. let h = positive e in omega (arith, h, i)) in
+      (sym (simp (w, z, em)), sym (simp (w, z)))
 
-  pub seal-done : num ≡ 0 → (o' : Bytes) → o' ≡ put_bytes o 0 (sealed q k n s (f ++ g) m) → (count : ℕ) → count ≡ q.secret + (length m + 16)
-      → (record { refusal = 0; mark = 0; count = count } ≡ seal_answer v k n s (f ++ g) m o) × (o' ≡ seal_output v k n s (f ++ g) m o)
+  pub seal-done : 0 ≡ seal_number (sizes v) (length k) (length n) (length s) (length f + length g) (length m) (length o)
+      → (o' : Bytes) → o' ≡ put_bytes o 0 (sealed (sizes v) k n s (f ++ g) m)
+      → (sealed_as (Ok ((sizes v).secret + (length m + 16))) ≡ seal_answer v k n s (f ++ g) m o) × (o' ≡ seal_output v k n s (f ++ g) m o)
   unfolding seal_answer seal_output
-  seal-done h o' eo count ec =
-      let z : seal_refusal v k n s (f ++ g) m o ≡ 0 = is-refusal ∙ h in (
-        ap (sealed_answer 0) (ec ∙ ap (λ (q : Sizes). q.secret + (length m + 16)) eq) ∙ sym (simp z),
-        eo ∙ ap (λ (q : Sizes). put_bytes o 0 (sealed q k n s (f ++ g) m)) eq ∙ sym (simp z),
-      )
+  seal-done h o' eo = let z : seal_refusal v k n s (f ++ g) m o ≡ 0 = is-refusal ∙ sym h in (sym (simp z), eo ∙ sym (simp z))
 
--- ---- opening: num is the number where the tag agrees
-module _ (v : Variant) (q : Sizes) (eq : q ≡ sizes v) (k n f g c : Bytes) (fits : Bool) (num : ℕ)
-    (e : num ≡ open_number q (length k) (length n) (length f + length g) (length c) fits true) where
+-- ---- opening
+module _ (v : Variant) (k n f g c : Bytes) (fits : Bool) where
   at_tag : (t : Bool) → open_number (sizes v) (length k) (length n) (length (f ++ g)) (length c) fits t
-      ≡ open_number q (length k) (length n) (length f + length g) (length c) fits t
-  at_tag t = ap₂ (λ (q : Sizes) (a : ℕ). open_number q (length k) (length n) a (length c) fits t) (sym eq) (length-append f g)
+      ≡ open_number (sizes v) (length k) (length n) (length f + length g) (length c) fits t
+  at_tag t = ap (λ (a : ℕ). open_number (sizes v) (length k) (length n) a (length c) fits t) (length-append f g)
 
   abbrev agrees : Bool
   agrees = tag_agrees (sizes v) k n (f ++ g) c
 
   -- turned down before the tag was looked at
-  stays : (num₀ : ℕ) → num ≡ suc num₀ → open_refusal v k n (f ++ g) c fits ≡ suc num₀
+  stays : (num : ℕ) → suc num ≡ open_number (sizes v) (length k) (length n) (length f + length g) (length c) fits true
+      → open_refusal v k n (f ++ g) c fits ≡ suc num
   unfolding open_refusal
-  stays num₀ h = at_tag agrees ∙ open-stands q (length k) (length n) (length f + length g) (length c) fits agrees num₀ (sym e ∙ h)
+  stays num e = at_tag agrees ∙ open-stands (sizes v) (length k) (length n) (length f + length g) (length c) fits agrees num (sym e)
 
   -- the tag decides
-  by-tag : num ≡ 0 → (t : Bool) → agrees ≡ t → open_refusal v k n (f ++ g) c fits ≡ cond (not t) 7 0
+  by-tag : 0 ≡ open_number (sizes v) (length k) (length n) (length f + length g) (length c) fits true
+      → (t : Bool) → agrees ≡ t → open_refusal v k n (f ++ g) c fits ≡ cond (not t) 7 0
   unfolding open_refusal
   by-tag h t et =
       at_tag agrees
-      ∙ open-decides q (length k) (length n) (length f + length g) (length c) fits agrees (sym e ∙ h)
+      ∙ open-decides (sizes v) (length k) (length n) (length f + length g) (length c) fits agrees (sym h)
       ∙ ap (λ (t : Bool). cond (not t) 7 0) et
 
-  refused-by : (num₀ : ℕ) → open_refusal v k n (f ++ g) c fits ≡ suc num₀ → (r : Opened) → r ≡ opened_answer (suc num₀) 0 [] → r ≡ open_answer v k n (f ++ g) c fits
+  refused-by : (e : Refusal) (num : ℕ) → number e ≡ suc num → open_refusal v k n (f ++ g) c fits ≡ suc num → mark e ≡ 0
+      → opened_as (Err e) ≡ open_answer v k n (f ++ g) c fits
   unfolding open_answer
-  refused-by num₀ z r er = let w = ne_eqb (suc num₀) 0 (λ i. omega arith) in er ∙ sym (simp (z, w))
+  refused-by e num en z em = let w = ne_eqb (suc num) 0 (λ i. omega arith) in sym (simp (z, w, en, em))
 
-  pub open-refused : (num ≡ 0 → ⊥) → (r : Opened) → r ≡ opened_answer num 0 [] → r ≡ open_answer v k n (f ++ g) c fits
-  open-refused h r er = by num refl
+  pub open-refused : (e : Refusal) → number e ≡ open_number (sizes v) (length k) (length n) (length f + length g) (length c) fits true → mark e ≡ 0
+      → opened_as (Err e) ≡ open_answer v k n (f ++ g) c fits
+  open-refused e en em = by (number e) refl
     where
-      by : (i : ℕ) → num ≡ i → r ≡ open_answer v k n (f ++ g) c fits
-      by zero z = absurd (h z)
-      by (suc num₀) z = refused-by num₀ (stays num₀ z) r (er ∙ ap (λ (i : ℕ). opened_answer i 0 []) z)
+      by : (i : ℕ) → number e ≡ i → opened_as (Err e) ≡ open_answer v k n (f ++ g) c fits
+      by zero z = let h = positive e in absurd (omega arith)
+      by (suc num) z = refused-by e num z (stays num (sym z ∙ en)) em
 
-  pub open-differs : num ≡ 0 → agrees ≡ false → (r : Opened) → r ≡ opened_answer 7 0 [] → r ≡ open_answer v k n (f ++ g) c fits
-  open-differs h et = refused-by 6 (by-tag h false et)
+  module _ (h : 0 ≡ open_number (sizes v) (length k) (length n) (length f + length g) (length c) fits true) where
+    pub open-differs : agrees ≡ false → opened_as (Err (TagDiffers 0)) ≡ open_answer v k n (f ++ g) c fits
+    open-differs et = refused-by (TagDiffers 0) 6 refl (by-tag h false et) refl
 
-  pub open_done : num ≡ 0 → agrees ≡ true → (l : ℕ) → l ≡ length c - (q.secret + 16)
-      → (s : Bytes) → s ≡ put_bytes (replicate 16 0) 0 (secret_of q k n c)
-      → record { refusal = 0; mark = 0; length = l; secret = s } ≡ open_answer v k n (f ++ g) c fits
-  unfolding open_answer
-  open_done h et l el s es =
-      let z : open_refusal v k n (f ++ g) c fits ≡ 0 = by-tag h true et in
-      ap₂ (λ (l : ℕ) (s : Bytes). record { refusal = 0; mark = 0; length = l; secret = s }) (el ∙ ap (λ (q : Sizes). length c - (q.secret + 16)) eq)
-      (es ∙ ap (λ (q : Sizes). put_bytes (replicate 16 0) 0 (secret_of q k n c)) eq)
-      ∙ sym (simp z)
-
--- an answer with a number that is not 0
-pub not_opened : (num : ℕ) → (num ≡ 0 → ⊥) → (r : Opened) → r ≡ opened_answer num 0 [] → r.refusal ≡ 0 → ⊥
-not_opened num h r er z = h (sym (ap (λ (r : Opened). r.refusal) er) ∙ z)
+    pub open_done : agrees ≡ true → (s : Bytes) → s ≡ put_bytes (replicate 16 0) 0 (secret_of (sizes v) k n c)
+        → opened_as (Ok (record { length = length c - ((sizes v).secret + 16); secret = s })) ≡ open_answer v k n (f ++ g) c fits
+    unfolding open_answer
+    open_done et s es =
+        let z : open_refusal v k n (f ++ g) c fits ≡ 0 = by-tag h true et in
+        ap (λ (s : Bytes). record { refusal = 0; mark = 0; length = length c - ((sizes v).secret + 16); secret = s }) es ∙ sym (simp z)
 
 -- ---- the output, and what number 0 tells, from the answer r
 module _ (v : Variant) (k n a c : Bytes) (fits : Bool) (r : Opened) (er : r ≡ open_answer v k n a c fits) where

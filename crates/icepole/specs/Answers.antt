@@ -1,13 +1,14 @@
 -- What sealing, verifying and opening answer and leave in the lent buffer, for good and bad calls (01, "Turned down, by example").
 -- Assumes nothing.
-use Rattle.std.specs.Prelude.{Bool, cond, not, ◌||◌, List, [], ◌∷◌, ℕ, ◌+◌, ◌-◌, eqb, leb, ltb, length, replicate}
+use Rattle.std.specs.Prelude.{Bool, cond, not, ◌||◌, List, [], ◌∷◌, ℕ, ◌+◌, ◌-◌, eqb, leb, ltb, length, replicate, Result, Ok, Err}
+use Rattle.refusals.specs.declared.Refusal.{Refusal}
+use Rattle.refusals.specs.Numbers.{number_of, mark_of, value_or}
 use Rattle.bytes_le.specs.Bytes.{Bytes, put_bytes, same}
 use Rattle.blocks.specs.declared.Sizes.{Sizes}
 use Rattle.blocks.specs.Lengths.{tag_length, max_secret, max_length}
 use Rattle.blocks.specs.Sealing.{sealed, secret_of, message_of, expected_tag, tag_part}
 use Rattle.icepole.specs.declared.Variant.{Variant}
-use Rattle.icepole.specs.declared.Sealed.{Sealed}
-use Rattle.icepole.specs.declared.Opened.{Opened}
+use Rattle.icepole.specs.declared.Released.{Released}
 use Rattle.icepole.specs.Variants.{sizes}
 
 -- a condition and its refusal number
@@ -56,7 +57,21 @@ unless num was is = cond (eqb num 0) is was
 abbrev pub given : ℕ → ℕ → ℕ
 given num x = unless num 0 x
 
--- ---- answers: with a refusal go zeros, and the mark is 0
+-- ---- answers, with every number of document 01: a refusal number, 0 when done, its mark, and the rest
+-- what sealing answers: the count of bytes written
+pub record Sealed : Type 0 where
+  pub refusal : ℕ
+  pub mark : ℕ
+  pub count : ℕ
+
+-- what opening answers: the message's length and the secret number
+pub record Opened : Type 0 where
+  pub refusal : ℕ
+  pub mark : ℕ
+  pub length : ℕ
+  pub secret : Bytes
+
+-- with a refusal go zeros, and the mark is 0
 abbrev pub sealed_answer : ℕ → ℕ → Sealed
 sealed_answer num count = record { refusal = num; mark = 0; count = given num count }
 
@@ -67,6 +82,18 @@ no_secret = replicate max_secret 0
 abbrev pub opened_answer : ℕ → ℕ → Bytes → Opened
 opened_answer num count secret =
     record { refusal = num; mark = 0; length = given num count; secret = unless num no_secret (put_bytes no_secret 0 secret) }
+
+-- ---- what the calls return, as such an answer
+abbrev pub sealed_as : Result ℕ Refusal → Sealed
+sealed_as r = record { refusal = number_of r; mark = mark_of r; count = value_or (λ n. n) 0 r }
+
+abbrev pub opened_as : Result Released Refusal → Opened
+opened_as r = record {
+  refusal = number_of r;
+  mark = mark_of r;
+  length = value_or (λ x. x.length) 0 r;
+  secret = value_or (λ x. x.secret) no_secret r;
+}
 
 -- ---- sealing
 module _ (v : Variant) (key nonce secret ad m out : Bytes) where

@@ -1,7 +1,9 @@
 -- Number and mark tell a refusal from every other and from a call that was done: a contract that gives both gives the answer.
 -- Assumes nothing.
-use Rattle.std.specs.Prelude.{◌≡◌, refl, ℕ, ◌<◌}
-use Rattle.std.proofs.Common.{rules}
+use Rattle.std.specs.Prelude.{◌≡◌, ℕ, ◌<◌, Result, Err}
+use Rattle.std.specs.Result.{IsErrAnd}
+use Rattle.std.proofs.lemmas.Result.{err_from_is_err_and}
+use Rattle.std.proofs.Common.{◌∙◌, ap, rules}
 use Rattle.refusals.specs.declared.Refusal.{Refusal}
 use Rattle.refusals.specs.declared.Refusal.TheVariants.{KeyLength, NonceLength, SecretLength, DataTooLong, OutputTooShort, SealedTooShort, TagDiffers, NotSound, BurstFull, PictureLength, BufferTooShort, FrontBroken, NoSuchPlace, StripState, NoCameraNumber, ShotCount, LogLength, TooManyRounds}
 use Rattle.refusals.specs.Numbers.{number, mark}
@@ -25,3 +27,7 @@ positive NoCameraNumber = search rules
 positive ShotCount = search rules
 positive LogLength = search rules
 positive TooManyRounds = search rules
+
+-- ---- an answer that `?` passes on
+pub passed-on : {A : Type 0} (r : Result A Refusal) (e : Refusal) → IsErrAnd r (λ y. y ≡ e) → r ≡ Err e
+passed-on r e h = let p = err_from_is_err_and r h in p.1 ∙ ap Err p.2

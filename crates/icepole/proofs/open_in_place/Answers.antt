@@ -1,33 +1,29 @@
--- `icepole::open_in_place` meets its contract: by the answer of `open_verified`; where its number is 0, the message is written.
+-- `icepole::open_in_place` meets its contract: by the answer of `open_verified`; where nothing is turned down, the message is written.
 -- Assumes nothing.
 use mathlib.Core.Bool.{true}
+use mathlib.Core.Path.{refl}
 use mathlib.Core.List.{◌++◌}
-use Rattle.blocks.specs.Bounds.{Bounded}
+use native.Mathlib.Omega.{arith}
+use Rattle.refusals.proofs.Laws.{positive}
 use Rattle.icepole.proofs.Answers.{decrypted, open_stays, to-decrypt}
 use Rattle.icepole.proofs.Bounds.{bounded-by}
 use Rattle.icepole.proofs.open_in_place.Goals as goal
-use Rattle.icepole.proofs.open_in_place.Goals.{After-sizes_of-q}
 
-bounds : (c : After-sizes_of-q) → Bounded c.sizes_of-q.result
-bounds c = bounded-by c.args.v _ c.sizes_of-q.ensures
-
-pub returns-then-opened-ne0 : goal.returns-then-opened-ne0
-returns-then-opened-ne0 c =
+pub returns-in_err-released-clause-output : goal.returns-in_err-released-clause-output
+returns-in_err-released-clause-output c =
     let a = c.args in
-    let e = c.open_verified-opened.ensures.0 in
-    (e, open_stays a.v a.key.now a.nonce.now (a.first.now ++ a.second.now) a.buffer.now true _ e c.if-opened-ne0.true a.buffer.now)
+    open_stays a.v a.key.now a.nonce.now (a.first.now ++ a.second.now) a.buffer.now true _ c.in_err-released.ensures.answer
+    (λ z. let h = positive c.in_err-released.field-0.0 in omega (arith, h, z)) a.buffer.now
 
 pub decrypt_in_place-requires : goal.decrypt_in_place-requires
 decrypt_in_place-requires c =
     let a = c.args in
-    to-decrypt a.v _ c.sizes_of-q.ensures (bounds (goal.at.decrypt_in_place-requires c).After-sizes_of-q) _ _ _ a.buffer.now true _ c.open_verified-opened.ensures.0 c.if-opened-ne0.false
+    let q = c.sizes_of-q in
+    to-decrypt a.v _ q.ensures (bounded-by a.v _ q.ensures) _ _ _ a.buffer.now true _ c.in_ok-released.ensures.answer refl
 
-pub returns : goal.returns
-returns c =
+pub returns-clause-output : goal.returns-clause-output
+returns-clause-output c =
     let a = c.args in
-    let e = c.open_verified-opened.ensures in
-    let z = c.if-opened-ne0.false in (
-      e.0,
-      decrypted a.v _ c.sizes_of-q.ensures (bounds (goal.at.returns c).After-sizes_of-q) _ _ _ a.buffer.now true _ e.0 z _ a.buffer.now _ (e.1 z)
-          c.decrypt_in_place.ensures,
-    )
+    let q = c.sizes_of-q in
+    let o = c.in_ok-released.ensures in
+    decrypted a.v _ q.ensures (bounded-by a.v _ q.ensures) _ _ _ a.buffer.now true _ o.answer refl _ a.buffer.now _ (o.ready refl) c.decrypt_in_place.ensures

@@ -1,51 +1,37 @@
--- `icepole::open_message` meets its contract: by the answer of `open_verified`; where its number is 0, the message is written.
+-- `icepole::open_message` meets its contract: by the answer of `open_verified`; where nothing is turned down, the message is written.
 -- Assumes nothing.
 use mathlib.Core.Path.{refl}
 use mathlib.Core.List.{◌++◌}
+use native.Mathlib.Omega.{arith}
 use lib.ListN.{length}
 use Rattle.icepole.specs.Answers.{fits_output}
-use Rattle.blocks.specs.Bounds.{Bounded}
+use Rattle.refusals.proofs.Laws.{positive}
 use Rattle.icepole.proofs.Answers.{answer-by, decrypted, has_room, open_stays, to-decrypt}
 use Rattle.icepole.proofs.Bounds.{bounded-by}
 use Rattle.icepole.proofs.open_message.Goals as goal
-use Rattle.icepole.proofs.open_message.Goals.{After-sizes_of-q}
 
-bounds : (c : After-sizes_of-q) → Bounded c.sizes_of-q.result
-bounds c = bounded-by c.args.v _ c.sizes_of-q.ensures
-
-pub message_fits-fits-requires : goal.message_fits-fits-requires
-message_fits-fits-requires c = bounds (goal.at.message_fits-fits-requires c).After-sizes_of-q
-
-pub returns-then-r-ne0 : goal.returns-then-r-ne0
-returns-then-r-ne0 c =
-    let m = c.message_fits-fits in
-    let q = c.sizes_of-q in
+pub returns-in_err-released-clause-output : goal.returns-in_err-released-clause-output
+returns-in_err-released-clause-output c =
     let a = c.args in
-    let e = answer-by a.v _ q.ensures a.key.now a.nonce.now (a.first.now ++ a.second.now) a.sealed.now a.out.now _ m.ensures
-    _ c.open_verified-r.ensures.0 in
-    (e, open_stays a.v a.key.now a.nonce.now (a.first.now ++ a.second.now) a.sealed.now (fits_output a.v a.sealed.now a.out.now) _ e c.if-r-ne0.true a.out.now)
+    let e = answer-by a.v _ c.sizes_of-q.ensures a.key.now a.nonce.now (a.first.now ++ a.second.now) a.sealed.now a.out.now _ c.message_fits-fits.ensures
+    _ c.in_err-released.ensures.answer in
+    open_stays a.v a.key.now a.nonce.now (a.first.now ++ a.second.now) a.sealed.now (fits_output a.v a.sealed.now a.out.now) _ e
+    (λ z. let h = positive c.in_err-released.field-0.0 in omega (arith, h, z)) a.out.now
 
 pub decrypt_message-requires : goal.decrypt_message-requires
 decrypt_message-requires c =
-    let m = c.message_fits-fits in
-    let q = c.sizes_of-q in
     let a = c.args in
-    let e = answer-by a.v _ q.ensures a.key.now a.nonce.now (a.first.now ++ a.second.now) a.sealed.now a.out.now _ m.ensures
-    _ c.open_verified-r.ensures.0 in
-    let z = c.if-r-ne0.false in
-    let h = bounds (goal.at.decrypt_message-requires c).After-sizes_of-q in
-    let w = to-decrypt a.v _ q.ensures h _ _ _ a.sealed.now _ _ e z in
-    (w.0, w.1, w.2, has_room a.v _ q.ensures h _ _ _ a.sealed.now _ _ e z (length a.out.now) refl)
+    let q = c.sizes_of-q in
+    let h = bounded-by a.v _ q.ensures in
+    let e = answer-by a.v _ q.ensures a.key.now a.nonce.now (a.first.now ++ a.second.now) a.sealed.now a.out.now _ c.message_fits-fits.ensures
+    _ c.in_ok-released.ensures.answer in
+    let w = to-decrypt a.v _ q.ensures h _ _ _ a.sealed.now _ _ e refl in
+    (w.0, w.1, w.2, has_room a.v _ q.ensures h _ _ _ a.sealed.now _ _ e refl (length a.out.now) refl)
 
-pub returns : goal.returns
-returns c =
-    let m = c.message_fits-fits in
-    let q = c.sizes_of-q in
+pub returns-clause-output : goal.returns-clause-output
+returns-clause-output c =
     let a = c.args in
-    let e = answer-by a.v _ q.ensures a.key.now a.nonce.now (a.first.now ++ a.second.now) a.sealed.now a.out.now _ m.ensures
-    _ c.open_verified-r.ensures.0 in
-    let z = c.if-r-ne0.false in (
-      e,
-      decrypted a.v _ q.ensures (bounds (goal.at.returns c).After-sizes_of-q) _ _ _ a.sealed.now _ _ e z _ a.out.now _ (c.open_verified-r.ensures.1 z)
-          c.decrypt_message.ensures,
-    )
+    let q = c.sizes_of-q in
+    let e = answer-by a.v _ q.ensures a.key.now a.nonce.now (a.first.now ++ a.second.now) a.sealed.now a.out.now _ c.message_fits-fits.ensures
+    _ c.in_ok-released.ensures.answer in
+    decrypted a.v _ q.ensures (bounded-by a.v _ q.ensures) _ _ _ a.sealed.now _ _ e refl _ a.out.now _ (c.in_ok-released.ensures.ready refl) c.decrypt_message.ensures

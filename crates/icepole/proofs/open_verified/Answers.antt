@@ -1,64 +1,43 @@
--- `icepole::open_verified` meets its contract: a number that is not 0 is the answer; else the tag decides.
+-- `icepole::open_verified` meets its contract: what `may_open` turns down is the answer; else the tag decides.
 -- Assumes nothing.
-use mathlib.Core.Path.{refl, sym, ap, ◌∙◌}
-use mathlib.Core.List.{◌++◌}
+use mathlib.Core.Path.{sym, ap, ◌∙◌}
 use native.Mathlib.Omega.{arith}
-use Rattle.blocks.specs.Bounds.{Bounded}
-use Rattle.blocks.specs.Sealing.{ready_of}
-use Rattle.blocks.specs.declared.Sizes.{Sizes}
-use Rattle.icepole.proofs.Answers.{agrees-by, not_opened, open-differs, open_done, open-refused}
-use Rattle.icepole.proofs.Bounds.{bounded-by}
+use Rattle.refusals.proofs.Laws.{passed-on}
+use Rattle.icepole.specs.Answers.{opened_as}
+use Rattle.icepole.proofs.Answers.{agrees-by, open-differs, open_done, open-refused}
+use Rattle.icepole.proofs.Bounds.{bounded}
 use Rattle.icepole.proofs.Numbers.{open-fits}
 use Rattle.icepole.proofs.open_verified.Goals as goal
-use Rattle.icepole.proofs.open_verified.Goals.{After-sizes_of-q}
 
-bounds : (c : After-sizes_of-q) → Bounded c.sizes_of-q.result
-bounds c = bounded-by c.args.v _ c.sizes_of-q.ensures
-
-pub open_number_of-number-requires : goal.open_number_of-number-requires
-open_number_of-number-requires c = bounds (goal.at.open_number_of-number-requires c).After-sizes_of-q
-
-pub returns-then-number-ne0 : goal.returns-then-number-ne0
-returns-then-number-ne0 c =
-    let q = c.sizes_of-q in
-    let a = c.args in (
-      open-refused a.v _ q.ensures a.key.now a.nonce.now a.first.now a.second.now a.sealed.now a.fits
-          _ c.open_number_of-number.ensures c.if-number-ne0.true _ c.refused.ensures,
-      λ z. absurd (not_opened _ c.if-number-ne0.true _ c.refused.ensures z),
-    )
+pub returns-in_err-may_open-clause-answer : goal.returns-in_err-may_open-clause-answer
+returns-in_err-may_open-clause-answer c =
+    let a = c.args in
+    let m = c.in_err-may_open.ensures in
+    ap opened_as (passed-on _ _ c.from_residual.ensures.1)
+    ∙ open-refused a.v a.key.now a.nonce.now a.first.now a.second.now a.sealed.now a.fits _ m.number m.mark
 
 pub verify_sealed-agrees-requires : goal.verify_sealed-agrees-requires
 verify_sealed-agrees-requires c =
-    let h = bounds (goal.at.verify_sealed-agrees-requires c).After-sizes_of-q in
-    let w = open-fits _ _ _ _ _ _ _ (sym c.open_number_of-number.ensures ∙ c.if-number-ne0.false) in
-    (h, w.key, w.nonce, w.associated, w.sealed, h.secret)
+    let h = bounded c.args.v in
+    let w = open-fits _ _ _ _ _ _ _ (sym c.in_ok-may_open.ensures.number) in
+    rw c.sizes_of-q.ensures (h, w.key, w.nonce, w.associated, w.sealed, h.secret)
 
-pub overflow_add-result : goal.overflow_add-result
-overflow_add-result c = let h = bounds (goal.at.overflow_add-result c).After-sizes_of-q in omega (arith, h.secret)
+pub returns-then-not-agrees-clause-answer : goal.returns-then-not-agrees-clause-answer
+returns-then-not-agrees-clause-answer c =
+    let a = c.args in
+    let t = agrees-by a.v _ c.sizes_of-q.ensures _ _ _ _ _ c.verify_sealed-agrees.ensures.0 in
+    open-differs a.v a.key.now a.nonce.now a.first.now a.second.now a.sealed.now a.fits c.in_ok-may_open.ensures.number (sym t ∙ c.if-not-agrees.true)
 
 pub overflow_sub-result : goal.overflow_sub-result
 overflow_sub-result c =
-    let w = open-fits _ _ _ _ _ _ _ (sym c.open_number_of-number.ensures ∙ c.if-number-ne0.false) in
-    omega (arith, w.sealed)
+    let w = open-fits _ _ _ _ _ _ _ (sym c.in_ok-may_open.ensures.number) in
+    rw c.sizes_of-q.ensures w.sealed
 
-pub returns-then-agrees : goal.returns-then-agrees
-returns-then-agrees c =
-    let o = c.verify_sealed-agrees in
-    let q = c.sizes_of-q in
+pub returns-clause-answer : goal.returns-clause-answer
+returns-clause-answer c =
     let a = c.args in
-    let t = agrees-by a.v _ q.ensures _ _ _ _ _ o.ensures.0 in (
-      open_done a.v _ q.ensures a.key.now a.nonce.now a.first.now a.second.now a.sealed.now a.fits
-          _ c.open_number_of-number.ensures c.if-number-ne0.false (sym t ∙ c.if-agrees.true) _ refl _ o.ensures.2,
-      λ z. o.ensures.1 ∙ ap (λ (q : Sizes). ready_of q a.key.now a.nonce.now (a.first.now ++ a.second.now) a.sealed.now) q.ensures,
-    )
-
-pub returns : goal.returns
-returns c =
     let o = c.verify_sealed-agrees in
-    let q = c.sizes_of-q in
-    let a = c.args in
-    let t = agrees-by a.v _ q.ensures _ _ _ _ _ o.ensures.0 in (
-      open-differs a.v _ q.ensures a.key.now a.nonce.now a.first.now a.second.now a.sealed.now a.fits
-          _ c.open_number_of-number.ensures c.if-number-ne0.false (sym t ∙ c.if-agrees.false) _ c.refused-2.ensures,
-      λ z. absurd (not_opened 7 (λ e. omega arith) _ c.refused-2.ensures z),
-    )
+    let t = agrees-by a.v _ c.sizes_of-q.ensures _ _ _ _ _ o.ensures.0 in
+    rw c.sizes_of-q.ensures
+    (open_done a.v a.key.now a.nonce.now a.first.now a.second.now a.sealed.now a.fits c.in_ok-may_open.ensures.number (sym t ∙ c.if-not-agrees.false) _
+    (rw c.sizes_of-q.ensures at o.ensures.2))
