@@ -6,29 +6,26 @@ use mathlib.Core.Path.{◌≡◌, sym, ap, ◌∙◌}
 use Prim.Native.Nat.{ℕ, ◌+◌, ◌-◌}
 use borrow.Author.Tests.{ne_eqb}
 use lib.ListN.{length, replicate, set}
+use Rattle.std.specs.Prelude.{Ok, Err, eqb}
+use native.Mathlib.Omega.{arith}
+use Rattle.refusals.specs.declared.Refusal.{Refusal}
+use Rattle.refusals.specs.Numbers.{number, mark}
+use Rattle.refusals.proofs.Laws.{positive}
 use Rattle.bytes_le.specs.Bytes.{Bytes, put_bytes}
 use Rattle.burst.specs.declared.Entry.{Entry}
 use Rattle.burst.specs.declared.Recorder.{Recorder}
-use Rattle.burst.specs.declared.Begun.{Begun}
-use Rattle.burst.specs.declared.ShotAnswer.{ShotAnswer}
-use Rattle.burst.specs.declared.Closed.{Closed}
 use Rattle.burst.specs.declared.Edition.{Edition}
 use Rattle.burst.specs.Editions.{written}
 use Rattle.burst.specs.Layout.{Identity, header_bytes, record_bytes, closing_seal}
 use Rattle.burst.specs.Numbers.{used_after, total_from, begin_number, keep_number, drop_number, close_number}
 use Rattle.burst.specs.Index.{entry_of}
-use Rattle.burst.specs.Recorder.{edition_of, name_of, identity_of, is_sound, changed, new_recorder, no_recorder, begin_refusal, begin_answer}
-use Rattle.burst.specs.Recorder.{begin_buffer, drop_refusal, after_drop, drop_answer, keep_refusal, after_keep, keep_answer, keep_buffer, close_refusal}
-use Rattle.burst.specs.Recorder.{after_close, close_answer, close_buffer, recorder_header, recorder_index, recorder_seal}
+use Rattle.burst.specs.Recorder.{edition_of, name_of, identity_of, is_sound, changed, new_recorder, no_recorder, begun_as, begin_refusal, begin_answer}
+use Rattle.burst.specs.Recorder.{begin_buffer, shot_as, drop_refusal, after_drop, drop_answer, keep_refusal, after_keep, keep_answer, keep_buffer, close_refusal}
+use Rattle.burst.specs.Recorder.{after_close, closed_as, close_answer, close_buffer, recorder_header, recorder_index, recorder_seal}
 
-abbrev begun_with : ℕ → Recorder → Begun
-begun_with num r = record { refusal = num; mark = 0; recorder = r }
-
-abbrev shot_with : ℕ → ℕ → Recorder → ShotAnswer
-shot_with num shot r = record { refusal = num; mark = 0; shot = record { 0 = shot }; recorder = r }
-
-abbrev closed_with : ℕ → ℕ → Recorder → Closed
-closed_with num total r = record { refusal = num; mark = 0; total = total; recorder = r }
+-- a refusal is not 0
+some : (x : Refusal) → eqb (number x) 0 ≡ false
+some x = ne_eqb (number x) 0 (λ i. let h = positive x in omega (arith, h, i))
 
 -- the numbers are worked out at a row e that is the call's own
 -- ---- begin
@@ -40,21 +37,23 @@ module _ (key : Bytes) (i : Identity) (b : Bytes) (e : Edition) (own : e ≡ wri
   unfolding begin_refusal
   begins-own = ap (λ (x : Edition). begin_number x (length key) (length i.site_mark) i.name.camera (length b)) own
 
-  pub begin-refused : (num : ℕ) → num ≡ begin_here → (num ≡ 0 → ⊥) → (r : Recorder) → r ≡ no_recorder
-      → (begun_with num r ≡ begin_answer key i b) × (b ≡ begin_buffer key i b)
+  pub begin-refused : (x : Refusal) → number x ≡ begin_here → mark x ≡ 0 → (r : Recorder) → r ≡ no_recorder
+      → (begun_as (record { answer = Err x; recorder = r }) ≡ begin_answer key i b) × (b ≡ begin_buffer key i b)
   unfolding begin_answer begin_buffer no_recorder
-  begin-refused num n h r f =
+  begin-refused x n m r f =
       let z = sym (n ∙ begins-own) in
-      (ap (begun_with num) f ∙ sym (simp (z, ne_eqb num 0 h)), sym (simp (z, ne_eqb num 0 h)))
+      (ap (λ (r : Recorder). begun_as (record { answer = Err x; recorder = r })) f ∙ sym (simp (z, some x, m)), sym (simp (z, some x)))
 
-  pub begin-done : begin_here ≡ 0 → (r : Recorder) → r ≡ new_recorder key i e.header false → (b' : Bytes) → b' ≡ put_bytes b 0 (replicate e.header 0)
-      → (begun_with 0 r ≡ begin_answer key i b) × (b' ≡ begin_buffer key i b)
-  unfolding begin_answer begin_buffer
-  begin-done n r f b' g =
-      let z = sym begins-own ∙ n in (
-        ap (begun_with 0) (f ∙ ap (λ (x : Edition). new_recorder key i x.header false) own) ∙ sym (simp z),
-        g ∙ ap (λ (x : Edition). put_bytes b 0 (replicate x.header 0)) own ∙ sym (simp z),
-      )
+  module _ (n : begin_here ≡ 0) where
+    pub begin-done : (r : Recorder) → r ≡ new_recorder key i e.header false → begun_as (record { answer = Ok tt; recorder = r }) ≡ begin_answer key i b
+    unfolding begin_answer
+    begin-done r f =
+        let z = sym begins-own ∙ n in
+        ap (λ (r : Recorder). begun_as (record { answer = Ok tt; recorder = r })) (f ∙ ap (λ (x : Edition). new_recorder key i x.header false) own) ∙ sym (simp z)
+
+    pub begin-written : (b' : Bytes) → b' ≡ put_bytes b 0 (replicate e.header 0) → b' ≡ begin_buffer key i b
+    unfolding begin_buffer
+    begin-written b' g = let z = sym begins-own ∙ n in g ∙ ap (λ (x : Edition). put_bytes b 0 (replicate x.header 0)) own ∙ sym (simp z)
 
 module _ (r : Recorder) (e : Edition) (own : e ≡ edition_of r) where
   -- ---- drop
@@ -65,11 +64,11 @@ module _ (r : Recorder) (e : Edition) (own : e ≡ edition_of r) where
   unfolding drop_refusal
   drops-own = ap (λ (x : Edition). drop_number x (is_sound x r) r.taken.0) own
 
-  pub drop-refused : (num : ℕ) → num ≡ drop_here → (num ≡ 0 → ⊥) → shot_with num 0 r ≡ drop_answer r
+  pub drop-refused : (x : Refusal) → number x ≡ drop_here → mark x ≡ 0 → shot_as (record { answer = Err x; recorder = r }) ≡ drop_answer r
   unfolding drop_answer
-  drop-refused num n h = sym (simp (sym (n ∙ drops-own), ne_eqb num 0 h))
+  drop-refused x n m = sym (simp (sym (n ∙ drops-own), some x, m))
 
-  pub drop-done : drop_here ≡ 0 → shot_with 0 (r.taken.0 + 1) (after_drop r) ≡ drop_answer r
+  pub drop-done : drop_here ≡ 0 → shot_as (record { answer = Ok (record { 0 = r.taken.0 + 1 }); recorder = after_drop r }) ≡ drop_answer r
   unfolding drop_answer
   drop-done n = sym (simp (sym drops-own ∙ n))
 
@@ -82,20 +81,20 @@ module _ (r : Recorder) (e : Edition) (own : e ≡ edition_of r) where
     unfolding keep_refusal
     keeps-own = ap (λ (x : Edition). keep_number x (is_sound x r) r.taken.0 r.kept.0 r.used (length s) (length p) (length b)) own
 
-    pub keep-refused : (num : ℕ) → num ≡ keep_here → (num ≡ 0 → ⊥) → (shot_with num 0 r ≡ keep_answer r s p b) × (b ≡ keep_buffer r s p b)
+    pub keep-refused : (x : Refusal) → number x ≡ keep_here → mark x ≡ 0
+        → (shot_as (record { answer = Err x; recorder = r }) ≡ keep_answer r s p b) × (b ≡ keep_buffer r s p b)
     unfolding keep_answer keep_buffer
-    keep-refused num n h =
-        let z = sym (n ∙ keeps-own) in (sym (simp (z, ne_eqb num 0 h)), sym (simp (z, ne_eqb num 0 h)))
+    keep-refused x n m = let z = sym (n ∙ keeps-own) in (sym (simp (z, some x, m)), sym (simp (z, some x)))
 
     abbrev record_at : Edition → Bytes
     record_at x = record_bytes x r.key (name_of r) (r.taken.0 + 1) r.used s p
 
     pub keep-done : keep_here ≡ 0 → (next : Recorder) → next ≡ after_keep r (length p) → (b' : Bytes) → b' ≡ put_bytes b r.used (record_at e)
-        → (shot_with 0 next.taken.0 next ≡ keep_answer r s p b) × (b' ≡ keep_buffer r s p b)
+        → (shot_as (record { answer = Ok next.taken; recorder = next }) ≡ keep_answer r s p b) × (b' ≡ keep_buffer r s p b)
     unfolding keep_answer keep_buffer after_keep
     keep-done n next f b' g =
         let z = sym keeps-own ∙ n in (
-          ap (λ (n : Recorder). shot_with 0 n.taken.0 n) f ∙ sym (simp z),
+          ap (λ (n : Recorder). shot_as (record { answer = Ok n.taken; recorder = n })) f ∙ sym (simp z),
           g ∙ ap (λ (x : Edition). put_bytes b r.used (record_at x)) own ∙ sym (simp z),
         )
 
@@ -114,19 +113,22 @@ module _ (r : Recorder) (e : Edition) (own : e ≡ edition_of r) where
     unfolding close_refusal
     closes-own = ap (λ (x : Edition). close_number (is_sound x r) r.kept.0 r.used (length b)) own
 
-    pub close-refused : (num : ℕ) → num ≡ close_here → (num ≡ 0 → ⊥) → (closed_with num 0 r ≡ close_answer r b) × (b ≡ close_buffer r b)
+    pub close-refused : (x : Refusal) → number x ≡ close_here → mark x ≡ 0
+        → (closed_as (record { answer = Err x; recorder = r }) ≡ close_answer r b) × (b ≡ close_buffer r b)
     unfolding close_answer close_buffer
-    close-refused num n h =
-        let z = sym (n ∙ closes-own) in (sym (simp (z, ne_eqb num 0 h)), sym (simp (z, ne_eqb num 0 h)))
+    close-refused x n m = let z = sym (n ∙ closes-own) in (sym (simp (z, some x, m)), sym (simp (z, some x)))
 
-    pub close-done : close_here ≡ 0 → (b' : Bytes) → b' ≡ put_bytes (put_bytes b 0 (header_at e)) r.used (end_at e)
-        → (closed_with 0 (total_from r.used r.kept.0) (after_close r) ≡ close_answer r b) × (b' ≡ close_buffer r b)
-    unfolding close_answer close_buffer recorder_header recorder_seal
-    close-done n b' g =
-        let z = sym closes-own ∙ n in (
-          sym (simp z),
-          g ∙ ap (λ (x : Edition). put_bytes (put_bytes b 0 (header_at x)) r.used (end_at x)) own ∙ sym (simp z),
-        )
+    module _ (n : close_here ≡ 0) where
+      none : close_refusal r b ≡ 0
+      none = sym closes-own ∙ n
+
+      pub close-done : closed_as (record { answer = Ok (total_from r.used r.kept.0); recorder = after_close r }) ≡ close_answer r b
+      unfolding close_answer
+      close-done = sym (simp none)
+
+      pub close-written : (b' : Bytes) → b' ≡ put_bytes (put_bytes b 0 (header_at e)) r.used (end_at e) → b' ≡ close_buffer r b
+      unfolding close_buffer recorder_header recorder_seal
+      close-written b' g = g ∙ ap (λ (x : Edition). put_bytes (put_bytes b 0 (header_at x)) r.used (end_at x)) own ∙ sym (simp none)
 
 -- ---- the recorder after a picture, built field by field with the entry e
 abbrev with_entry : Recorder → ℕ → Entry → Recorder

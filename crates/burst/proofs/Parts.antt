@@ -11,11 +11,10 @@ use lib.Dec.{eqb}
 use lib.ListN.{length, take, drop, replicate, length-replicate}
 use Rattle.bytes_le.specs.Bytes.{AllBytes, Bytes, put_bytes}
 use Rattle.bytes_le.proofs.Laws.{put-part, put-put, put_whole, length-put}
-use Rattle.icepole.specs.declared.Opened.{Opened}
 use Rattle.icepole.specs.declared.Variant.TheVariants.{Icepole128}
 use Rattle.icepole.specs.Variants.{sizes}
 use Rattle.blocks.specs.Sealing.{blocks_before, sealed, secret_of, message_of}
-use Rattle.icepole.specs.Answers.{tag_agrees, opened_answer, seal_refusal, seal_output, open_refusal, open_answer, open_output, fits_output}
+use Rattle.icepole.specs.Answers.{Opened, tag_agrees, opened_answer, seal_refusal, seal_output, open_refusal, open_answer, open_output, fits_output}
 use Rattle.icepole.proofs.Numbers.{seal-0, open-0, open-decides}
 use Rattle.blocks.proofs.Opening.{opened, length-sealed, secret-of-sealed, message-of-sealed, tag-of-sealed, length-secret-of, length-message-of, seal-open}
 use Rattle.icepole.proofs.OpenedBytes.{secret-bytes, message-bytes}

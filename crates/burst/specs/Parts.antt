@@ -4,13 +4,12 @@
 -- Assumes nothing.
 use Rattle.std.specs.Prelude.{Bool, cond, List, ◌++◌, ℕ, ◌+◌, ◌-◌, ◌<◌, ◌^◌, length, replicate}
 use Rattle.bytes_le.specs.Bytes.{Bytes, le, put_bytes}
-use Rattle.icepole.specs.declared.Opened.{Opened}
 use Rattle.icepole.specs.declared.Variant.TheVariants.{Icepole128}
 use Rattle.icepole.specs.Variants.{sizes}
 use Rattle.blocks.specs.Lengths.{tag_length}
 use Rattle.blocks.specs.Sealing.{sealed, secret_of, message_of}
 use Rattle.padded_blocks.specs.PaddedBlocks.{seal_blocks, Permuting, seal_calls}
-use Rattle.icepole.specs.Answers.{tag_agrees, opened_answer, unless}
+use Rattle.icepole.specs.Answers.{Opened, tag_agrees, opened_answer, unless}
 use Rattle.burst.specs.declared.Edition.{Edition}
 use Rattle.burst.specs.declared.Name.{Name}
 use Rattle.burst.specs.Fields.{count_width, burst_number_width, camera_width}

@@ -2,14 +2,13 @@
 -- Assumes nothing.
 use Rattle.std.specs.Prelude.{Bool, true, false, not, ◌&&◌, List, ◌++◌, ℕ, ◌+◌, ◌-◌, leb, length, take, set, replicate}
 use Rattle.bytes_le.specs.Bytes.{Bytes, put_bytes}
+use Rattle.refusals.specs.Numbers.{number_of, mark_of, value_or}
 use Rattle.icepole.specs.Answers.{unless, given}
 use Rattle.burst.specs.declared.Entry.{Entry}
 use Rattle.burst.specs.declared.Place.{Place}
 use Rattle.burst.specs.declared.Recorder.{Recorder}
 use Rattle.burst.specs.declared.Shot.{Shot}
-use Rattle.burst.specs.declared.Begun.{Begun}
-use Rattle.burst.specs.declared.ShotAnswer.{ShotAnswer}
-use Rattle.burst.specs.declared.Closed.{Closed}
+use Rattle.burst.specs.declared.Outcome.{Outcome}
 use Rattle.burst.specs.declared.Edition.{Edition}
 use Rattle.burst.specs.declared.Name.{Name}
 use Rattle.burst.specs.Editions.{written, max_entries}
@@ -49,6 +48,44 @@ changed r taken kept used entries closed = record {
   entries = entries;
   closed = closed;
   camera = r.camera;
+}
+
+-- ---- answers, with every number of document 01: a refusal number, 0 when done, its mark, what the call gives, and the recorder
+pub record Begun : Type 0 where
+  pub refusal : ℕ
+  pub mark : ℕ
+  pub recorder : Recorder
+
+pub record ShotAnswer : Type 0 where
+  pub refusal : ℕ
+  pub mark : ℕ
+  pub shot : Shot
+  pub recorder : Recorder
+
+pub record Closed : Type 0 where
+  pub refusal : ℕ
+  pub mark : ℕ
+  pub total : ℕ
+  pub recorder : Recorder
+
+-- what the calls return, as such an answer
+abbrev pub begun_as : Outcome (Unit {0}) → Begun
+begun_as o = record { refusal = number_of o.answer; mark = mark_of o.answer; recorder = o.recorder }
+
+abbrev pub shot_as : Outcome Shot → ShotAnswer
+shot_as o = record {
+  refusal = number_of o.answer;
+  mark = mark_of o.answer;
+  shot = value_or (λ s. s) (record { 0 = 0 }) o.answer;
+  recorder = o.recorder;
+}
+
+abbrev pub closed_as : Outcome ℕ → Closed
+closed_as o = record {
+  refusal = number_of o.answer;
+  mark = mark_of o.answer;
+  total = value_or (λ n. n) 0 o.answer;
+  recorder = o.recorder;
 }
 
 -- ---- begin

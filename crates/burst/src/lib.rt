@@ -2,19 +2,20 @@
 #![tactic(auto)]
 
 ghost use Rattle.std.specs.Prelude.{◌≡◌, ◌++◌, ◌+◌, ◌-◌, ◌*◌, ◌≤◌, ◌<◌, ◌^◌, length, take, replicate};
+ghost use Rattle.refusals.specs.Numbers.{number_of, mark_of};
 ghost use Rattle.bytes_le.specs.Bytes.{Bytes, put_bytes};
+ghost use Rattle.icepole.specs.Answers.{opened_as};
 ghost use Rattle.burst.specs.Fields.{offset_width, entry_length};
 ghost use Rattle.burst.specs.Editions.{Known, numbered, written, no_camera, max_entries, max_header};
 ghost use Rattle.burst.specs.Parts.{seal_length, nonce_of, part_blocks, seal_part, part_answer, part_output, key_length, mark_length};
 ghost use Rattle.burst.specs.Layout.{identified, max_picture, max_index, header_bytes, record_bytes, closing_seal};
 ghost use Rattle.burst.specs.Numbers.{begin_number, keep_number, drop_number, close_number};
 ghost use Rattle.burst.specs.Index.{entry_of, entry_rules, index_rules, bytes_of_entry};
-ghost use Rattle.burst.specs.Recorder.{edition_of, name_of, identity_of, is_sound, new_recorder, begin_answer, begin_buffer, drop_answer};
-ghost use Rattle.burst.specs.Recorder.{after_keep, keep_answer, keep_buffer, recorder_index, close_answer, close_buffer};
+ghost use Rattle.burst.specs.Recorder.{edition_of, name_of, identity_of, is_sound, new_recorder, no_recorder, begun_as, begin_answer, begin_buffer};
+ghost use Rattle.burst.specs.Recorder.{shot_as, drop_answer, after_keep, keep_answer, keep_buffer, recorder_index, closed_as, close_answer, close_buffer};
 
-use icepole::{
-    KEY_BYTES, KEY_LENGTH, NONCE_BYTES, Opened, SECRET_BYTES, SECRET_LENGTH, TAG_BYTES, Variant,
-};
+use icepole::{KEY_BYTES, NONCE_BYTES, Released, SECRET_BYTES, TAG_BYTES, Variant};
+use refusals::Refusal;
 
 // A shot number (01): counts firings from 1.
 #[derive(Clone, Copy)]
@@ -23,21 +24,6 @@ pub struct Shot(pub u16);
 // A place (01): counts kept pictures from 0.
 #[derive(Clone, Copy)]
 pub struct Place(pub u16);
-
-// The refusal numbers of recorder and reader (01, "Turned down, by example"; 02, N1), after those of `icepole`.
-pub const NOT_SOUND: u32 = 8;
-
-pub const BURST_FULL: u32 = 9;
-
-pub const PICTURE_LENGTH: u32 = 10;
-
-pub const BUFFER_TOO_SHORT: u32 = 11;
-
-pub const FRONT_BROKEN: u32 = 12;
-
-pub const NO_SUCH_PLACE: u32 = 13;
-
-pub const NO_CAMERA_NUMBER: u32 = 15;
 
 // ---- the fields of header and index entry
 // Bytes of a count (an edition, a shot number, taken, kept, dropped), of an offset or a length, of a burst number, and of a camera number.
@@ -178,28 +164,11 @@ pub struct Recorder {
     pub camera: u32,
 }
 
-// What the calls answer: a refusal number, 0 when done, its mark, and the rest, which is zero with a refusal. A refused keep, drop or close returns the
-// recorder it was given, a refused begin a closed one, otherwise zero.
+// What a call answers, and the recorder that goes to the next call. A keep, drop or close that is turned down returns the recorder it was given, a begin a closed
+// one, otherwise zero (01).
 #[derive(Clone, Copy)]
-pub struct Begun {
-    pub refusal: u32,
-    pub mark: u32,
-    pub recorder: Recorder,
-}
-
-#[derive(Clone, Copy)]
-pub struct ShotAnswer {
-    pub refusal: u32,
-    pub mark: u32,
-    pub shot: Shot,
-    pub recorder: Recorder,
-}
-
-#[derive(Clone, Copy)]
-pub struct Closed {
-    pub refusal: u32,
-    pub mark: u32,
-    pub total: u32,
+pub struct Outcome<T> {
+    pub answer: Result<T, Refusal>,
     pub recorder: Recorder,
 }
 
@@ -366,24 +335,42 @@ pub fn no_camera(e: Edition, camera: u32) -> bool
     camera == 0
 }
 
-// The number of begin, from the camera number and the lengths of what is lent.
-fn begin_number(e: Edition, key: usize, site_mark: usize, camera: u32, buffer: usize) -> u32
+// Whether begin is turned down, from the camera number and the lengths of what is lent.
+fn may_begin(
+    e: Edition,
+    key: usize,
+    site_mark: usize,
+    camera: u32,
+    buffer: usize,
+) -> Result<(), Refusal>
     requires { Known e }
-    ensures { result ≡ begin_number e key site_mark camera buffer }
+    ensures number { number_of result ≡ begin_number e key site_mark camera buffer }
+    ensures mark { mark_of result ≡ 0 }
 {
     if key != KEY_BYTES {
-        return KEY_LENGTH;
+        return Err(Refusal::KeyLength);
     }
     if site_mark != MARK_BYTES {
-        return SECRET_LENGTH;
+        return Err(Refusal::SecretLength);
     }
     if no_camera(e, camera) {
-        return NO_CAMERA_NUMBER;
+        return Err(Refusal::NoCameraNumber);
     }
     if buffer < (e.header + SEAL_LENGTH) as usize {
-        return BUFFER_TOO_SHORT;
+        return Err(Refusal::BufferTooShort);
     }
-    0
+    Ok(())
+}
+
+// What a begin that is turned down returns.
+fn no_recorder() -> Recorder
+    ensures { result ≡ no_recorder }
+{
+    let name = Name {
+        burst_number: 0,
+        camera: 0,
+    };
+    new_recorder([0u8; KEY_BYTES], name, [0u8; MARK_BYTES], 0, true)
 }
 
 pub fn begin(
@@ -392,26 +379,15 @@ pub fn begin(
     camera: u32,
     site_mark: &[u8],
     buffer: &mut [u8],
-) -> Begun
-    ensures { (result ≡ begin_answer key.now (identified burst_number camera site_mark.now) buffer.old) ×
-        (buffer.new ≡ begin_buffer key.now (identified burst_number camera site_mark.now) buffer.old) }
+) -> Outcome<()>
+    ensures answer { begun_as result ≡ begin_answer key.now (identified burst_number camera site_mark.now) buffer.old }
+    ensures output { buffer.new ≡ begin_buffer key.now (identified burst_number camera site_mark.now) buffer.old }
 {
     let e = edition_written(key.len());
-    let number = begin_number(e, key.len(), site_mark.len(), camera, buffer.len());
-    if number != 0 {
-        return Begun {
-            refusal: number,
-            mark: 0,
-            recorder: new_recorder(
-                [0u8; KEY_BYTES],
-                Name {
-                    burst_number: 0,
-                    camera: 0,
-                },
-                [0u8; MARK_BYTES],
-                0,
-                true,
-            ),
+    if let Err(refusal) = may_begin(e, key.len(), site_mark.len(), camera, buffer.len()) {
+        return Outcome {
+            answer: Err(refusal),
+            recorder: no_recorder(),
         };
     }
     let zeros = [0u8; MAX_HEADER];
@@ -419,63 +395,44 @@ pub fn begin(
     bytes_le::put_bytes(buffer, 0, &zeros[..n]);
     let k = array_of(key);
     let m = array_of(site_mark);
-    Begun {
-        refusal: 0,
-        mark: 0,
-        recorder: new_recorder(
-            k,
-            Name {
-                burst_number,
-                camera,
-            },
-            m,
-            e.header,
-            false,
-        ),
+    let name = Name {
+        burst_number,
+        camera,
+    };
+    Outcome {
+        answer: Ok(()),
+        recorder: new_recorder(k, name, m, e.header, false),
     }
 }
 
-// The answer of a keep or drop that is turned down.
-fn not_shot(refusal: u32, r: Recorder) -> ShotAnswer
-    ensures { result ≡ record { refusal = refusal; mark = 0; shot = record { 0 = 0 }; recorder = r } }
-{
-    ShotAnswer {
-        refusal,
-        mark: 0,
-        shot: Shot(0),
-        recorder: r,
-    }
-}
-
-fn drop_number(e: Edition, r: Recorder) -> u32
+fn may_drop(e: Edition, r: Recorder) -> Result<(), Refusal>
     requires { Known e }
-    ensures { result ≡ drop_number e (is_sound e r) r.taken.0 }
+    ensures number { number_of result ≡ drop_number e (is_sound e r) r.taken.0 }
+    ensures mark { mark_of result ≡ 0 }
 {
     if !sound(e, r) {
-        return NOT_SOUND;
+        return Err(Refusal::NotSound);
     }
     if r.taken.0 >= e.shots {
-        return BURST_FULL;
+        return Err(Refusal::BurstFull);
     }
-    0
+    Ok(())
 }
 
-pub fn drop_shot(r: Recorder) -> ShotAnswer
-    ensures { result ≡ drop_answer r }
+pub fn drop_shot(r: Recorder) -> Outcome<Shot>
+    ensures { shot_as result ≡ drop_answer r }
 {
     let e = edition_of(r);
-    let number = drop_number(e, r);
-    if number != 0 {
-        return not_shot(number, r);
+    if let Err(refusal) = may_drop(e, r) {
+        return Outcome {
+            answer: Err(refusal),
+            recorder: r,
+        };
     }
     let shot = Shot(r.taken.0 + 1);
-    let mut next = r;
-    next.taken = shot;
-    ShotAnswer {
-        refusal: 0,
-        mark: 0,
-        shot,
-        recorder: next,
+    Outcome {
+        answer: Ok(shot),
+        recorder: Recorder { taken: shot, ..r },
     }
 }
 
@@ -509,7 +466,7 @@ fn seal_part(
         (seal_part e key.now name shot.0 mark.now (first.now ++ second.now) body.now) }
 {
     let nonce = nonce_of(e, name, shot);
-    icepole::seal(
+    let _ = icepole::seal(
         Variant::Icepole128,
         key,
         &nonce,
@@ -540,10 +497,10 @@ pub fn verify_part(
     first: &[u8],
     second: &[u8],
     sealed: &[u8],
-) -> Opened
+) -> Result<Released, Refusal>
     requires { (length key.now ≡ key_length) × (length first.now + length second.now ≤ max_header + max_index)
         × (seal_length ≤ length sealed.now) × (length sealed.now ≤ max_picture + seal_length) }
-    ensures { result ≡ part_answer e key.now name shot.0 (first.now ++ second.now) sealed.now }
+    ensures { opened_as result ≡ part_answer e key.now name shot.0 (first.now ++ second.now) sealed.now }
 {
     let nonce = nonce_of(e, name, shot);
     icepole::verify(Variant::Icepole128, key, &nonce, first, second, sealed)
@@ -559,12 +516,12 @@ pub fn open_part(
     second: &[u8],
     sealed: &[u8],
     out: &mut [u8],
-) -> Opened
+) -> Result<Released, Refusal>
     requires { (length key.now ≡ key_length) × (length first.now + length second.now ≤ max_header + max_index)
         × (seal_length ≤ length sealed.now) × (length sealed.now ≤ max_picture + seal_length)
         × (length sealed.now ≤ length out.old + seal_length) }
-    ensures { (result ≡ part_answer e key.now name shot.0 (first.now ++ second.now) sealed.now)
-        × (out.new ≡ part_output e key.now name shot.0 (first.now ++ second.now) sealed.now out.old) }
+    ensures answer { opened_as result ≡ part_answer e key.now name shot.0 (first.now ++ second.now) sealed.now }
+    ensures output { out.new ≡ part_output e key.now name shot.0 (first.now ++ second.now) sealed.now out.old }
 {
     let nonce = nonce_of(e, name, shot);
     icepole::open_message(Variant::Icepole128, key, &nonce, first, second, sealed, out)
@@ -590,32 +547,39 @@ fn entry_bytes(x: Entry) -> [u8; ENTRY_LENGTH]
     a
 }
 
-// The number of keep, from the lengths of what is lent.
-fn keep_number(e: Edition, r: Recorder, stamp: usize, picture: usize, buffer: usize) -> u32
+// Whether keep is turned down, from the lengths of what is lent.
+fn may_keep(
+    e: Edition,
+    r: Recorder,
+    stamp: usize,
+    picture: usize,
+    buffer: usize,
+) -> Result<(), Refusal>
     requires { Known e }
-    ensures { result ≡ keep_number e (is_sound e r) r.taken.0 r.kept.0 r.used stamp picture buffer }
+    ensures number { number_of result ≡ keep_number e (is_sound e r) r.taken.0 r.kept.0 r.used stamp picture buffer }
+    ensures mark { mark_of result ≡ 0 }
 {
     if !sound(e, r) {
-        return NOT_SOUND;
+        return Err(Refusal::NotSound);
     }
     if stamp != MARK_BYTES {
-        return SECRET_LENGTH;
+        return Err(Refusal::SecretLength);
     }
     if r.taken.0 >= e.shots {
-        return BURST_FULL;
+        return Err(Refusal::BurstFull);
     }
     if picture < 1 {
-        return PICTURE_LENGTH;
+        return Err(Refusal::PictureLength);
     }
     if picture > MAX_PICTURE as usize {
-        return PICTURE_LENGTH;
+        return Err(Refusal::PictureLength);
     }
     let used = r.used as usize + picture + SEAL_LENGTH as usize;
     let end = used + index_length(Place(r.kept.0 + 1));
     if buffer < end + SEAL_LENGTH as usize {
-        return BUFFER_TOO_SHORT;
+        return Err(Refusal::BufferTooShort);
     }
-    0
+    Ok(())
 }
 
 // The entry of a recorder's next picture, which has so many bytes.
@@ -662,34 +626,31 @@ fn with_picture(r: Recorder, count: u32) -> Recorder
     ensures { result ≡ after_keep r count }
 {
     let x = next_entry(r, count);
-    let place = r.kept.0 as usize;
-    let kept = Place(r.kept.0 + 1);
-    let used = r.used + count + SEAL_LENGTH;
-    let shot = x.shot;
-    let mut next = r;
-    next.taken = shot;
-    next.kept = kept;
-    next.used = used;
-    next.entries[place] = x;
+    let mut next = Recorder {
+        taken: x.shot,
+        kept: Place(r.kept.0 + 1),
+        used: r.used + count + SEAL_LENGTH,
+        ..r
+    };
+    next.entries[r.kept.0 as usize] = x;
     next
 }
 
-pub fn keep(r: Recorder, stamp: &[u8], picture: &[u8], buffer: &mut [u8]) -> ShotAnswer
-    ensures { (result ≡ keep_answer r stamp.now picture.now buffer.old) ×
-        (buffer.new ≡ keep_buffer r stamp.now picture.now buffer.old) }
+pub fn keep(r: Recorder, stamp: &[u8], picture: &[u8], buffer: &mut [u8]) -> Outcome<Shot>
+    ensures answer { shot_as result ≡ keep_answer r stamp.now picture.now buffer.old }
+    ensures output { buffer.new ≡ keep_buffer r stamp.now picture.now buffer.old }
 {
     let e = edition_of(r);
-    let number = keep_number(e, r, stamp.len(), picture.len(), buffer.len());
-    if number != 0 {
-        return not_shot(number, r);
+    if let Err(refusal) = may_keep(e, r, stamp.len(), picture.len(), buffer.len()) {
+        return Outcome {
+            answer: Err(refusal),
+            recorder: r,
+        };
     }
     put_record(e, r, stamp, picture, buffer);
     let next = with_picture(r, picture.len() as u32);
-    let shot = next.taken;
-    ShotAnswer {
-        refusal: 0,
-        mark: 0,
-        shot,
+    Outcome {
+        answer: Ok(next.taken),
         recorder: next,
     }
 }
@@ -768,30 +729,29 @@ fn put_end(e: Edition, r: Recorder, header: &[u8], index: &[u8], buffer: &mut [u
     );
 }
 
-fn close_number(e: Edition, r: Recorder, buffer: usize) -> u32
+fn may_close(e: Edition, r: Recorder, buffer: usize) -> Result<(), Refusal>
     requires { Known e }
-    ensures { result ≡ close_number (is_sound e r) r.kept.0 r.used buffer }
+    ensures number { number_of result ≡ close_number (is_sound e r) r.kept.0 r.used buffer }
+    ensures mark { mark_of result ≡ 0 }
 {
     if !sound(e, r) {
-        return NOT_SOUND;
+        return Err(Refusal::NotSound);
     }
     let end = r.used as usize + index_length(r.kept);
     if buffer < end + SEAL_LENGTH as usize {
-        return BUFFER_TOO_SHORT;
+        return Err(Refusal::BufferTooShort);
     }
-    0
+    Ok(())
 }
 
-pub fn close(r: Recorder, buffer: &mut [u8]) -> Closed
-    ensures { (result ≡ close_answer r buffer.old) × (buffer.new ≡ close_buffer r buffer.old) }
+pub fn close(r: Recorder, buffer: &mut [u8]) -> Outcome<u32>
+    ensures answer { closed_as result ≡ close_answer r buffer.old }
+    ensures output { buffer.new ≡ close_buffer r buffer.old }
 {
     let e = edition_of(r);
-    let number = close_number(e, r, buffer.len());
-    if number != 0 {
-        return Closed {
-            refusal: number,
-            mark: 0,
-            total: 0,
+    if let Err(refusal) = may_close(e, r, buffer.len()) {
+        return Outcome {
+            answer: Err(refusal),
             recorder: r,
         };
     }
@@ -801,12 +761,8 @@ pub fn close(r: Recorder, buffer: &mut [u8]) -> Closed
     let m = e.header as usize;
     put_end(e, r, &header[..m], &index[..n], buffer);
     let total = r.used + n as u32 + SEAL_LENGTH;
-    let mut next = r;
-    next.closed = true;
-    Closed {
-        refusal: 0,
-        mark: 0,
-        total,
-        recorder: next,
+    Outcome {
+        answer: Ok(total),
+        recorder: Recorder { closed: true, ..r },
     }
 }

@@ -10,14 +10,18 @@ use Rattle.burst.specs.Layout.{max_index}
 use Rattle.burst.proofs.Parts.{part-opened, part-written}
 use Rattle.burst.proofs.open_part.Goals as goal
 
-pub returns : goal.returns
-returns c =
+pub returns-clause-answer : goal.returns-clause-answer
+returns-clause-answer c =
     let a = c.args in
     let p = c.requires in
-    let ad = a.first.now ++ a.second.now in
-    let l : length ad ≤ max_header + max_index = rw length-append (omega (arith, p)) in (
-      c.open_message.ensures.0
-          ∙ part-opened a.e a.key.now a.name a.shot.0 p.0 _ c.nonce_of-nonce.ensures ad l a.sealed.now p.2 p.3 a.out.now p.4,
-      c.open_message.ensures.1
-          ∙ part-written a.e a.key.now a.name a.shot.0 p.0 _ c.nonce_of-nonce.ensures ad l a.sealed.now p.2 p.3 a.out.now p.4,
-    )
+    c.open_message.ensures.answer
+    ∙ part-opened a.e a.key.now a.name a.shot.0 p.0 _ c.nonce_of-nonce.ensures (a.first.now ++ a.second.now)
+    (rw length-append (omega (arith, p))) a.sealed.now p.2 p.3 a.out.now p.4
+
+pub returns-clause-output : goal.returns-clause-output
+returns-clause-output c =
+    let a = c.args in
+    let p = c.requires in
+    c.open_message.ensures.output
+    ∙ part-written a.e a.key.now a.name a.shot.0 p.0 _ c.nonce_of-nonce.ensures (a.first.now ++ a.second.now)
+    (rw length-append (omega (arith, p))) a.sealed.now p.2 p.3 a.out.now p.4

@@ -11,7 +11,7 @@ pub returns : goal.returns
 returns c =
     let a = c.args in
     let p = c.requires in
-    c.seal.ensures.1
+    c.seal.ensures.output
     ∙ part-put a.e a.key.now a.name a.shot.0 p.0 _ c.nonce_of-nonce.ensures (a.first.now ++ a.second.now) (rw length-append (omega (arith, p))) a.mark.now
     a.body.now a.out.now
     p.1 p.3 p.4

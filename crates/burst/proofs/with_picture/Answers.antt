@@ -1,10 +1,7 @@
 -- `burst::with_picture` meets its contract.
 -- Assumes nothing.
-use Rattle.burst.specs.Recorder.{after_keep}
 use Rattle.burst.proofs.Answers.{kept-with}
 use Rattle.burst.proofs.with_picture.Goals as goal
 
 pub returns : goal.returns
-unfolding after_keep
-returns c =
-    kept-with c.args.r c.args.count _ c.next_entry-x.ensures
+returns c = kept-with c.args.r c.args.count _ c.next_entry-x.ensures
