@@ -5,11 +5,10 @@ use mathlib.Core.List.{List, [], ◌∷◌}
 use mathlib.Core.Path.{◌≡◌, refl, sym, ap, ◌∙◌}
 use Prim.Native.Nat.{ℕ, suc, ◌+◌, ◌*◌, ◌≤◌, ◌<◌}
 use native.Mathlib.Omega.{arith}
-use native.Mathlib.Numerals.{add-one}
 use borrow.Author.Tests.{le-leb, eq-eqb, lt-ltb, leb-true, ltb-true, eqb-true}
 use lib.Dec.{eqb, leb, ltb}
 use lib.ListN.{length, take, drop, get_or, length-take, drop_of_length-le}
-use lib.Seq.{slice-cons}
+use Rattle.std.proofs.lemmas.List.{at_drop_more}
 use Rattle.bits.proofs.Cases.{and-true}
 use Rattle.burst.specs.declared.Entry.{Entry}
 use Rattle.burst.specs.declared.Recorder.{Recorder}
@@ -99,27 +98,26 @@ index-used (e ∷ es) last offset taken end h =
     let l = w.0.size in
     (omega arith, omega arith)
 
--- ---- a turn over the first n of some entries
-module _ (es : List Entry) (n i : ℕ) (d : Entry) (h : i < n) (g : n ≤ length es) (last offset taken end : ℕ) where
+-- ---- a turn over some entries
+module _ (es : List Entry) (i : ℕ) (d : Entry) (h : i < length es) (last offset taken end : ℕ) where
   abbrev Here : Bool
-  Here = index_rules last offset taken end (drop i (take n es))
+  Here = index_rules last offset taken end (drop i es)
 
   pub turn : entry_rules last offset taken (get_or es i d) ≡ true
-      → Here ≡ index_rules (get_or es i d).shot.0 (used_after offset (get_or es i d).length) taken end (drop (i + 1) (take n es))
+      → Here ≡ index_rules (get_or es i d).shot.0 (used_after offset (get_or es i d).length) taken end (drop (i + 1) es)
   turn e =
-      ap (index_rules last offset taken end) (slice-cons i n es d h g)
-      ∙ index-next last offset taken end (get_or es i d) (drop (suc i) (take n es)) e
-      ∙ ap (λ (k : ℕ). index_rules (get_or es i d).shot.0 (used_after offset (get_or es i d).length) taken end (drop k (take n es))) (sym (add-one i))
+      at_drop_more (index_rules last offset taken end) es i d h
+      ∙ index-next last offset taken end (get_or es i d) (drop (i + 1) es) e
 
   pub fault : entry_rules last offset taken (get_or es i d) ≡ false → Here ≡ false
   fault e =
-      ap (index_rules last offset taken end) (slice-cons i n es d h g)
-      ∙ index-fault last offset taken end (get_or es i d) (drop (suc i) (take n es)) e
+      at_drop_more (index_rules last offset taken end) es i d h
+      ∙ index-fault last offset taken end (get_or es i d) (drop (i + 1) es) e
 
-pub ended : (es : List Entry) (n i last offset taken end : ℕ) → n ≤ i
-    → index_rules last offset taken end (drop i (take n es)) ≡ eqb offset end
-ended es n i last offset taken end h =
-    ap (index_rules last offset taken end) (drop_of_length-le (take n es) {i = i} (simp length-take (omega arith)))
+pub ended : (es : List Entry) (i last offset taken end : ℕ) → length es ≤ i
+    → index_rules last offset taken end (drop i es) ≡ eqb offset end
+ended es i last offset taken end h =
+    ap (index_rules last offset taken end) (drop_of_length-le es {i = i} h)
     ∙ index-end last offset taken end
 
 -- ---- a sound recorder, with the bounds that hold over every row

@@ -195,29 +195,19 @@ fn entry_ok(last: Shot, offset: u32, taken: Shot, x: Entry) -> bool
     x.length <= MAX_PICTURE
 }
 
-// Whether the first entries, so many as are kept, obey the index rules: their records go from `start` to `end`.
-pub fn entries_ok(
-    entries: [Entry; MAX_ENTRIES],
-    kept: Place,
-    start: u32,
-    taken: Shot,
-    end: u32,
-) -> bool
-    requires { (kept.0 ≤ max_entries) × (start ≤ max_header) }
-    ensures { result ≡ index_rules 0 start taken.0 end (take kept.0 entries) }
+// Whether entries obey the index rules: their records go from `start` to `end`.
+pub fn entries_ok(entries: &[Entry], start: u32, taken: Shot, end: u32) -> bool
+    requires { (length entries.now ≤ max_entries) × (start ≤ max_header) }
+    ensures { result ≡ index_rules 0 start taken.0 end entries.now }
 {
-    let n = kept.0 as usize;
-    let mut i: usize = 0;
-    let mut last: u16 = 0;
+    let mut last = Shot(0);
     let mut offset = start;
-    while i < n {
-        let x = entries[i];
-        if !entry_ok(Shot(last), offset, taken, x) {
+    for x in entries {
+        if !entry_ok(last, offset, taken, *x) {
             return false;
         }
         offset = offset + x.length + SEAL_LENGTH;
-        last = x.shot.0;
-        i += 1;
+        last = x.shot;
     }
     offset == end
 }
@@ -288,8 +278,7 @@ fn sound(e: Edition, r: Recorder) -> bool
     if r.kept.0 > r.taken.0 {
         return false;
     }
-    let entries = r.entries;
-    entries_ok(entries, r.kept, e.header, r.taken, r.used)
+    entries_ok(&r.entries[..r.kept.0 as usize], e.header, r.taken, r.used)
 }
 
 // The bytes of a key or of a mark, which have as many.
