@@ -13,7 +13,7 @@ use Rattle.bits.proofs.Cases.{le-or-lt, zero_or_not}
 use Rattle.bytes_le.specs.Bytes.{Bytes}
 use Rattle.bytes_le.proofs.Laws.{put_front, take_put}
 use Rattle.icepole.specs.declared.Variant.{Variant}
-use Rattle.icepole.specs.declared.Opened.{Opened}
+use Rattle.icepole.specs.Answers.{Opened}
 use Rattle.icepole.specs.Variants.{sizes}
 use Rattle.icepole.specs.Answers.{fits_output, open_answer, open_length, open_output, open_refusal, tag_agrees}
 use Rattle.icepole_c.specs.Calls.{fits_both, info_after, info_length, open_call_info, open_call_output, open_call_refusal}

@@ -12,8 +12,8 @@ use Rattle.std.specs.Prelude.{Bool, true, false, List, [], ◌∷◌, ◌++◌, 
 use Rattle.bytes_le.specs.Bytes.{Bytes, put_bytes}
 use Rattle.icepole.specs.declared.Variant.{Variant}
 use Rattle.icepole.specs.declared.Variant.TheVariants.{Icepole128}
-use Rattle.icepole.specs.declared.Sealed.{Sealed}
-use Rattle.icepole.specs.declared.Opened.{Opened}
+use Rattle.icepole.specs.Answers.{Sealed}
+use Rattle.icepole.specs.Answers.{Opened}
 use Rattle.icepole.specs.Variants.{sizes}
 use Rattle.blocks.specs.Lengths.{tag_length, max_secret, max_length}
 use Rattle.icepole.specs.Answers.{tag_agrees, seal_number, seal_refusal, seal_answer, seal_output, open_number, fits_output, open_answer, open_output}

@@ -7,8 +7,8 @@
 use Rattle.std.specs.Prelude.{◌≡◌, Bool, true, [], ◌++◌, ℕ, ◌+◌, ◌≤◌, length}
 use Rattle.bytes_le.specs.Bytes.{Bytes, AllBytes, le, put_bytes}
 use Rattle.icepole.specs.declared.Variant.{Variant}
-use Rattle.icepole.specs.declared.Sealed.{Sealed}
-use Rattle.icepole.specs.declared.Opened.{Opened}
+use Rattle.icepole.specs.Answers.{Sealed}
+use Rattle.icepole.specs.Answers.{Opened}
 use Rattle.icepole.specs.Variants.{sizes}
 use Rattle.blocks.specs.Lengths.{tag_length, max_length}
 use Rattle.blocks.specs.Sealing.{sealed}

@@ -9,7 +9,7 @@ use Rattle.std.specs.Prelude.{true, ◌++◌, ◌≢◌, ◌≡◌, ◌≤◌, �
 use Rattle.bytes_le.specs.Bytes.{Bytes}
 use Rattle.blocks.specs.Sealing.{sealed}
 use Rattle.icepole.specs.declared.Variant.{Variant}
-use Rattle.icepole.specs.declared.Opened.{Opened}
+use Rattle.icepole.specs.Answers.{Opened}
 use Rattle.icepole.specs.Variants.{sizes}
 use Rattle.icepole.specs.Answers.{open_answer, open_output, open_length, fits_output}
 use Rattle.icepole_c.specs.Calls.{info_length, info_after, open_call_refusal, open_call_output, open_call_info}

@@ -1,9 +1,9 @@
 -- Number and mark tell a refusal from every other and from a call that was done: a contract that gives both gives the answer.
 -- Assumes nothing.
-use Rattle.std.specs.Prelude.{◌≡◌, ℕ, ◌<◌, Result, Err}
+use Rattle.std.specs.Prelude.{◌≡◌, refl, List, [], ◌∷◌, ℕ, ◌<◌, get_or, Result, Err}
 use Rattle.std.specs.Result.{IsErrAnd}
 use Rattle.std.proofs.lemmas.Result.{err_from_is_err_and}
-use Rattle.std.proofs.Common.{◌∙◌, ap, rules}
+use Rattle.std.proofs.Common.{◌∙◌, sym, ap, ap₂, rules}
 use Rattle.refusals.specs.declared.Refusal.{Refusal}
 use Rattle.refusals.specs.declared.Refusal.TheVariants.{KeyLength, NonceLength, SecretLength, DataTooLong, OutputTooShort, SealedTooShort, TagDiffers, NotSound, BurstFull, PictureLength, BufferTooShort, FrontBroken, NoSuchPlace, StripState, NoCameraNumber, ShotCount, LogLength, TooManyRounds}
 use Rattle.refusals.specs.Numbers.{number, mark}
@@ -27,6 +27,59 @@ positive NoCameraNumber = search rules
 positive ShotCount = search rules
 positive LogLength = search rules
 positive TooManyRounds = search rules
+
+-- ---- number and mark tell the refusal
+-- the refusals by their numbers; a number that none has gives the first
+abbrev by-number : ℕ → List Refusal
+by-number m =
+    KeyLength
+    ∷ KeyLength
+    ∷ NonceLength
+    ∷ SecretLength
+    ∷ DataTooLong
+    ∷ OutputTooShort
+    ∷ SealedTooShort
+    ∷ TagDiffers m
+    ∷ NotSound
+    ∷ BurstFull
+    ∷ PictureLength
+    ∷ BufferTooShort
+    ∷ FrontBroken
+    ∷ NoSuchPlace
+    ∷ StripState
+    ∷ NoCameraNumber
+    ∷ ShotCount
+    ∷ KeyLength
+    ∷ KeyLength
+    ∷ LogLength
+    ∷ TooManyRounds
+    ∷ []
+
+abbrev refusal_of : ℕ → ℕ → Refusal
+refusal_of n m = get_or (by-number m) n KeyLength
+
+back : (e : Refusal) → refusal_of (number e) (mark e) ≡ e
+back KeyLength = refl
+back NonceLength = refl
+back SecretLength = refl
+back DataTooLong = refl
+back OutputTooShort = refl
+back SealedTooShort = refl
+back (TagDiffers shot) = refl
+back NotSound = refl
+back BurstFull = refl
+back PictureLength = refl
+back BufferTooShort = refl
+back FrontBroken = refl
+back NoSuchPlace = refl
+back StripState = refl
+back NoCameraNumber = refl
+back ShotCount = refl
+back LogLength = refl
+back TooManyRounds = refl
+
+pub told : (e f : Refusal) → number e ≡ number f → mark e ≡ mark f → e ≡ f
+told e f p q = sym (back e) ∙ ap₂ refusal_of p q ∙ back f
 
 -- ---- an answer that `?` passes on
 pub passed-on : {A : Type 0} (r : Result A Refusal) (e : Refusal) → IsErrAnd r (λ y. y ≡ e) → r ≡ Err e
