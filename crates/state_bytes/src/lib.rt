@@ -42,11 +42,8 @@ pub fn load_state(s: &mut State, b: &[u8])
     requires { state_length ≤ length b.now }
     ensures { bytes_of s.new ≡ take state_length b.now }
 {
-    let mut w: usize = 0;
-    while w < STATE_WORDS {
-        let k = bytes_le::load_u64(b, 8 * w);
-        set_word(s, w, k);
-        w += 1;
+    for w in 0..STATE_WORDS {
+        set_word(s, w, bytes_le::load_u64(b, 8 * w));
     }
 }
 
@@ -66,11 +63,8 @@ pub fn store_state(s: &State, b: &mut [u8])
     requires { state_length ≤ length b.old }
     ensures { b.new ≡ put_bytes b.old 0 (bytes_of s.now) }
 {
-    let mut w: usize = 0;
-    while w < STATE_WORDS {
-        let k = word(s, w);
-        bytes_le::store_u64(b, 8 * w, k);
-        w += 1;
+    for w in 0..STATE_WORDS {
+        bytes_le::store_u64(b, 8 * w, word(s, w));
     }
 }
 
