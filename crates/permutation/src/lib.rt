@@ -245,36 +245,22 @@ pub fn rounds(s: &mut State, n: usize)
     *s = t;
 }
 
-// "In the presented algorithm the 6- and 12-round variants (denoted by P_6 and P_12) are used" (003, 2.5): P_6 in place, so that callers copy no
-// state.
-pub fn permute6(s: &mut State)
-    ensures { s.new ≡ P 6 s.old }
+// "In the presented algorithm the 6- and 12-round variants (denoted by P_6 and P_12) are used" (003, 2.5): P_6 is permute::<6>, and P_12 permute::<12>. In place, so
+// that callers copy no state.
+pub fn permute<const N: usize>(s: &mut State)
+    requires { N ≤ 12 }
+    ensures { s.new ≡ P N s.old }
 {
-    rounds(s, 6);
+    rounds(s, N);
 }
 
-// P_12 in place (003, 2.5).
-pub fn permute12(s: &mut State)
-    ensures { s.new ≡ P 12 s.old }
-{
-    rounds(s, 12);
-}
-
-// P_6 by value (003, 2.5).
-pub fn p6(s: State) -> State
-    ensures { result ≡ P 6 s }
+// The same by value.
+pub fn p<const N: usize>(s: State) -> State
+    requires { N ≤ 12 }
+    ensures { result ≡ P N s }
 {
     let mut t = s;
-    permute6(&mut t);
-    t
-}
-
-// P_12 by value (003, 2.5).
-pub fn p12(s: State) -> State
-    ensures { result ≡ P 12 s }
-{
-    let mut t = s;
-    permute12(&mut t);
+    permute::<N>(&mut t);
     t
 }
 

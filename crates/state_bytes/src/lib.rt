@@ -75,17 +75,11 @@ pub fn start(s: &mut State)
     *s = permutation::start_state();
 }
 
-// P6 and P12.
-pub fn permute6(s: &mut State)
-    ensures { bytes_of s.new ≡ permuted 6 (bytes_of s.old) }
+// P6 is permute::<6>, and P12 permute::<12>.
+pub fn permute<const N: usize>(s: &mut State)
+    requires { N ≤ 12 }
+    ensures { bytes_of s.new ≡ permuted N (bytes_of s.old) }
 {
     shaped(*s);
-    permutation::permute6(s);
-}
-
-pub fn permute12(s: &mut State)
-    ensures { bytes_of s.new ≡ permuted 12 (bytes_of s.old) }
-{
-    shaped(*s);
-    permutation::permute12(s);
+    permutation::permute::<N>(s);
 }
