@@ -39,6 +39,19 @@ const CONSTANTS: [u64; 12] = [
     0x00001234F7F89ABC,
 ];
 
+// The table as the steps take it: by reference, so that a loop over rounds copies it once. It holds the paper's constants, by its type.
+#[derive(Clone, Copy)]
+pub struct RoundConstants {
+    words: [u64; 12],
+    ghost paper: { words ≡ constants },
+}
+
+pub fn constant_table() -> RoundConstants
+    ensures { result.words ≡ constants }
+{
+    RoundConstants { words: CONSTANTS }
+}
+
 // The rounds that have a constant.
 pub const MAX_ROUNDS: usize = 12;
 
@@ -205,12 +218,12 @@ fn psi(s: State) -> State
 }
 
 // "In κ the 64-bit constant is xored with S[0][0]" (003, 2.5, κ): "S[0][0] := S[0][0] ⊕ constant[numberOfRound]".
-pub fn kappa(s: State, constant: &[u64; 12], number: usize) -> State
-    requires { (number < 12) × (constant.now ≡ constants) }
+pub fn kappa(s: State, constant: &RoundConstants, number: usize) -> State
+    requires { number < 12 }
     ensures { result ≡ κ s number }
 {
     let mut t = s;
-    t[0][0] = t[0][0] ^ constant[number];
+    t[0][0] = t[0][0] ^ constant.words[number];
     t
 }
 
@@ -218,8 +231,8 @@ pub fn kappa(s: State, constant: &[u64; 12], number: usize) -> State
 const AFTER_KAPPA: usize = 4;
 
 // "Each round R consists of five steps" (003, 2.5): R = κ ∘ ψ ∘ π ∘ ρ ∘ μ. The state after each step is returned, so that the contract can speak of each.
-fn round(s: State, constant: &[u64; 12], number: usize) -> [State; 5]
-    requires { (number < 12) × (constant.now ≡ constants) }
+fn round(s: State, constant: &RoundConstants, number: usize) -> [State; 5]
+    requires { number < 12 }
     ensures { result ≡ steps_of s number }
 {
     let after_mu = mu(s);
@@ -236,7 +249,7 @@ pub fn rounds(s: &mut State, n: usize)
     requires { n ≤ 12 }
     ensures { s.new ≡ P n s.old }
 {
-    let constant = CONSTANTS;
+    let constant = constant_table();
     let mut t = *s;
     for i in 0..n {
         let states = round(t, &constant, i);
@@ -266,8 +279,8 @@ pub fn p<const N: usize>(s: State) -> State
 
 // One round by itself (003, 2.5), for crates of ours that look at the states between rounds. The table is handed in, so that a loop copies it once. It repeats
 // the lines of round and of psi: with a second caller the compiler no longer puts those in line.
-pub fn round_at(s: State, constant: &[u64; 12], number: usize) -> State
-    requires { (number < 12) × (constant.now ≡ constants) }
+pub fn round_at(s: State, constant: &RoundConstants, number: usize) -> State
+    requires { number < 12 }
     ensures { result ≡ R s number }
 {
     let mixed = mu(s);
@@ -278,13 +291,6 @@ pub fn round_at(s: State, constant: &[u64; 12], number: usize) -> State
     let column2 = sbox_by_differences(moved[2]);
     let column0 = sbox_by_differences(moved[0]);
     kappa([column0, column1, column2, column3], constant, number)
-}
-
-// The table that round_at wants.
-pub fn constant_table() -> [u64; 12]
-    ensures { result ≡ constants }
-{
-    CONSTANTS
 }
 
 // "First, the state is initialized with the 1280-bit pseudorandom constant" (003, 2.6): the state before key and nonce.

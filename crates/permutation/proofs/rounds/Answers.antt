@@ -27,6 +27,3 @@ pub returns : goal.returns
 returns c =
     let e : c.loop-i.i ≡ c.args.n = omega arith in
     c.loop-i.invariant.1 ∙ ap (λ (k : ℕ). P k c.args.s.now) e
-
-pub round-states-requires : goal.round-states-requires
-round-states-requires c = (omega arith, refl)
