@@ -2,6 +2,7 @@ pub mod Bounds
 pub mod Columns
 pub mod Tabulate
 pub mod Matrix
+pub mod Alike
 pub mod Rotation
 pub mod SBox
 pub mod Steps

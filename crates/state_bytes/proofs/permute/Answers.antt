@@ -6,6 +6,4 @@ use Rattle.state_bytes.proofs.View.{permuted-bytes}
 use Rattle.state_bytes.proofs.permute.Goals as goal
 
 pub returns : goal.returns
-returns g c =
-    let h = c.shaped.ensures in
-    ap bytes_of c.permute.ensures ∙ permuted-bytes g.row.N c.args.s.now h.0 h.1
+returns g c = ap bytes_of c.permute.ensures ∙ permuted-bytes g.row.N c.args.s.now
