@@ -6,11 +6,19 @@ use Prim.Native.Nat.{ℕ, zero, suc, ◌+◌, ◌*◌, ◌/◌, ◌%◌, ◌≤�
 use lib.Dec.{lit<}
 use lib.ListN.{get_or, length, take}
 use lib.Seq.{take-add, take_all}
+use mir.Syntax.{w64}
+use mir.Val.{Val}
+use denote.Array.{Array, each}
+use denote.Laws.{Is}
+use denote.Plain.{UInt}
+use denote.Shadow.{shadow}
+use native.Mathlib.Nat.{not-suc-le-zero, le_of_suc-le-suc}
 use native.Mathlib.Omega.{arith}
 use Rattle.bits.specs.Bits.{bit}
 use Rattle.bits.proofs.Laws.{bit-low}
 use Rattle.permutation.specs.Permutation.{ρ, π, ψ, κ, R, P}
 use Rattle.permutation.proofs.Alike.{mu_same}
+use Rattle.permutation.proofs.Bounds.{words}
 use Rattle.permutation.proofs.Tabulate.{get_or-each, get_or-tabulate, tabulate_same, tabulated}
 use Rattle.permutation.specs.State.{State, IsState, at, state, tabulate}
 use Rattle.bytes_le.proofs.All.{all-le, all_append, le-at, le_at-less}
@@ -54,9 +62,6 @@ state-shaped s w = (
   record { four = ap length w.2; five = λ x h. ap (λ (t : State). length (get_or t x [])) w.2 ∙ ap length (get_or-tabulate 4 (λ x. tabulate 5 (w.0 x)) x [] h) },
   λ x y. subst⁻¹ (λ (t : State). at t x y < word_range) w.2 (word_below w.0 w.1 x y),
 )
-
-pub state-of-bytes : (s : State) → Shape s → ((x y : ℕ) → at s x y < word_range) → state_of (bytes_of s) ≡ s
-state-of-bytes s h l = state-held s (shaped-state s h l)
 
 -- ---- bytes, and the state that has them
 -- word w of the state whose bytes are v
@@ -120,3 +125,13 @@ pub permuted-bytes : (n : ℕ) (s : State) → bytes_of (P n s) ≡ permuted n (
 unfolding permuted P bytes_of
 permuted-bytes zero s = sym (bytes-of-state (bytes_of s) (all-below s state_words) (length-bytes s))
 permuted-bytes (suc n) s = ap bytes_of (rounds-held n s)
+
+-- ---- what the program's own type [[u64; 5]; 4] tells of a value: that it is a state of the core (by `shaped-state`)
+rows : (xs : List (List ℕ)) (us : List Val) → shadow (each (List ℕ) (Array (UInt w64) 5).own_val xs us) → (x : ℕ) → x < length xs → length (get_or xs x []) ≡ 5
+rows [] us p x h = absurd (not-suc-le-zero h)
+rows (r ∷ xs) [] p x h = absurd p
+rows (r ∷ xs) (u ∷ us) p zero h = p.0.1.0.1
+rows (r ∷ xs) (u ∷ us) p (suc x) h = rows xs us p.1 x (le_of_suc-le-suc h)
+
+pub told : (s : State) (vs : List Val) → Is (Array (Array (UInt w64) 5) 4) s vs → Shape s × ((x y : ℕ) → at s x y < word_range)
+told s vs p = (record { four = p.1.0.1; five = λ x h. rows s p.0 p.1.1 x (rw p.1.0.1 h) }, words s vs p)

@@ -3,7 +3,7 @@
 
 ghost use Rattle.std.specs.Prelude.{◌≡◌, ◌+◌, ◌*◌, ◌≤◌, ◌<◌, length, take, drop};
 ghost use Rattle.bytes_le.specs.Bytes.{le, le_at, put_bytes};
-ghost use Rattle.state_bytes.specs.StateBytes.{state_words, state_length, bytes_of, column, state_of, permuted, start_bytes};
+ghost use Rattle.state_bytes.specs.StateBytes.{state_words, state_length, bytes_of, state_of, permuted, start_bytes};
 
 type State = [[u64; 5]; 4];
 
@@ -46,31 +46,16 @@ fn word_in(b: &[u8], at: usize, w: usize) -> u64
     bytes_le::load_u64(b, at + 8 * w)
 }
 
-// Its column x.
-fn column_in(b: &[u8], at: usize, x: usize) -> [u64; 5]
-    requires { (x < 4) × (at + state_length ≤ length b.now) }
-    ensures { result ≡ column (take state_length (drop at b.now)) x }
-{
-    [
-        word_in(b, at, x),
-        word_in(b, at, x + 4),
-        word_in(b, at, x + 8),
-        word_in(b, at, x + 12),
-        word_in(b, at, x + 16),
-    ]
-}
-
 // The state whose bytes stand in b from index at on, by value.
 pub fn state_in(b: &[u8], at: usize) -> State
     requires { at + state_length ≤ length b.now }
     ensures { result ≡ state_of (take state_length (drop at b.now)) }
 {
-    [
-        column_in(b, at, 0),
-        column_in(b, at, 1),
-        column_in(b, at, 2),
-        column_in(b, at, 3),
-    ]
+    let mut s = [[0; 5]; 4];
+    for w in 0..STATE_WORDS {
+        s[w % 4][w / 4] = word_in(b, at, w);
+    }
+    s
 }
 
 // Puts the bytes of a state at the front of b.
