@@ -5,6 +5,5 @@ pub mod Matrix
 pub mod Alike
 pub mod Rotation
 pub mod SBox
-pub mod Steps
 pub mod WorkedRound
 pub mod AppendixB
