@@ -260,7 +260,7 @@ pub fn finish(s: &mut State, n: usize, frame: u64)
     let z = state_bytes::word(s, w);
     let padding = frame + 2;
     state_bytes::set_word(s, w, z ^ (padding << 8 * (n % 8)));
-    state_bytes::permute6(s);
+    state_bytes::permute::<6>(s);
 }
 
 // ---- the keyed state and the tag
@@ -271,7 +271,7 @@ fn keyed_state(s: &mut State, key: &[u8], nonce: &[u8])
 {
     state_bytes::start(s);
     absorb_bytes(s, key, nonce, 0, key.len() + nonce.len());
-    state_bytes::permute12(s);
+    state_bytes::permute::<12>(s);
 }
 
 // Whether the tag of s stands in c from index at on. All differences are gathered before the one test.

@@ -59,16 +59,6 @@ bit_in (x ∷ b) h (suc j) k l =
     ∙ bit_in b h.1 j k l
 
 -- ---- the state
-formed : (S : ℕ → ℕ → ℕ) → Shape (state S)
-formed S = record { four = refl; five = five }
-  where
-    five : (x : ℕ) → x < 4 → length (get_or (state S) x []) ≡ 5
-    five zero h = refl
-    five (suc zero) h = refl
-    five (suc (suc zero)) h = refl
-    five (suc (suc (suc zero))) h = refl
-    five (suc (suc (suc (suc x)))) h = absurd (omega arith)
-
 state-bit : (S : ℕ → ℕ → ℕ) (w z : ℕ) → w < 20 → z < 64 → bit_of (bytes_of (state S)) (64 * w + z) ≡ bit (word_of (state S) w) z
 state-bit S w z hw hz =
     let v = bytes_of (state S) in
@@ -78,7 +68,7 @@ state-bit S w z hw hz =
     ap₂ (λ (i k : ℕ). bit (get_or v i 0) k) ei ek
     ∙ ap (λ (y : ℕ). bit y (z % 8))
     (sym (get_or-drop (8 * w) v (z / 8) 0) ∙ sym (get_or-take 8 (drop (8 * w) v) (z / 8) 0 (omega arith))
-    ∙ ap (λ (l : Bytes). get_or l (z / 8) 0) (bytes_word (state S) (formed S) w hw))
+    ∙ ap (λ (l : Bytes). get_or l (z / 8) 0) (bytes_word (state S) w hw))
     ∙ bit-of 8 (word_of (state S) w) (z / 8) (z % 8) (omega arith) (omega arith)
     ∙ ap (bit (word_of (state S) w)) ez
 

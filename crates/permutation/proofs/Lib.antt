@@ -2,8 +2,8 @@ pub mod Bounds
 pub mod Columns
 pub mod Tabulate
 pub mod Matrix
+pub mod Alike
 pub mod Rotation
 pub mod SBox
-pub mod Steps
 pub mod WorkedRound
 pub mod AppendixB

@@ -5,8 +5,9 @@ use mathlib.Core.Logic.{⊎_elim}
 use Prim.Native.Nat.{ℕ, ◌+◌, ◌-◌, ◌*◌, ◌/◌, ◌%◌, ◌^◌, ◌≤◌, ◌<◌}
 use native.Mathlib.Nat.{lt_of_le_of_lt, mul-mod_left, add-zero, mod-lt, eq-zero-or-pos}
 use native.Mathlib.Omega.{arith}
-use lib.Bits.{bit_or, or_lt, or_shifted}
+use lib.Bits.{bit_or, or_lt, or_self, or_shifted}
 use lib.Pow.{mod-pow-add, shl-shr, shr_lt, shr_le, pow_pos}
+use Rattle.std.specs.Int.{rotate_left, w64}
 use Rattle.bits.specs.Bits.{bit}
 use Rattle.bits.proofs.Laws.{by_bits, number-below, bit-shr, bit-low, bit_below, bit-above, bit-number}
 use Rattle.permutation.specs.Permutation.{rotl}
@@ -46,17 +47,31 @@ module _ (w k : ℕ) (hw : w < 2 ^ 64) (hk : k ≤ 64) where
       bit_below k (w % 2 ^ j) (w / 2 ^ j) high_part z (omega arith) ∙ bit-shr w j z ∙ ap (bit w) e)
       (eq-zero-or-pos (k - z))
 
-  pub rotated : bit_or (w * 2 ^ k % 2 ^ 64) (w / 2 ^ (64 - k)) ≡ rotl w k
+  rotated : bit_or (w * 2 ^ k % 2 ^ 64) (w / 2 ^ (64 - k)) ≡ rotl w k
   unfolding rotl
   rotated =
       by_bits (bit_or (w * 2 ^ k % 2 ^ 64) (w / 2 ^ j)) (λ z. bit w ((z + j) % 64))
       (or_lt 64 (w * 2 ^ k % 2 ^ 64) (w / 2 ^ j) (mod-lt (w * 2 ^ k) (pow_pos 64)) (lt_of_le_of_lt (shr_le w j) hw))
       (λ z l. ap (λ (n : ℕ). bit n z) swapped ∙ bits z l)
 
-pub rotated-none : (w k : ℕ) → w < 2 ^ 64 → k ≡ 0 → w ≡ rotl w k
+rotated-none : (w k : ℕ) → w < 2 ^ 64 → k ≡ 0 → w ≡ rotl w k
 unfolding rotl
 rotated-none w k h e =
     by_bits w (λ z. bit w ((z + 64) % 64)) h (λ z l. ap (bit w) (let m : z ≡ (z + 64) % 64 = omega arith in m)) ∙ ap (rotl w) (sym e)
+
+-- what the library's method makes
+pub rotated-left : (w k : ℕ) → w < 2 ^ 64 → k < 64 → rotate_left w64 w k ≡ rotl w k
+rotated-left w k hw hk =
+    let ek : k % 64 ≡ k = omega arith in
+    ⊎_elim
+    (λ (e : k ≡ 0).
+    let high : w * 2 ^ 0 % 2 ^ 64 ≡ w = omega arith in
+    let low : w / 2 ^ 0 ≡ w = omega arith in
+    ap (rotate_left w64 w) e ∙ ap₂ bit_or high low ∙ or_self w ∙ rotated-none w k hw e)
+    (λ (h : 0 < k).
+    let ej : (64 - k % 64) % 64 ≡ 64 - k = omega arith in
+    ap₂ (λ (i j : ℕ). bit_or (w * 2 ^ i % 2 ^ 64) (w / 2 ^ j)) ek ej ∙ rotated w k hw (omega arith))
+    (eq-zero-or-pos k)
 
 pub rotl-below : (w k : ℕ) → rotl w k < 2 ^ 64
 unfolding rotl

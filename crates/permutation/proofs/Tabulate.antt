@@ -1,9 +1,9 @@
--- Lists that are tabulated: what stands at an index, and that every list is.
+-- Lists that are tabulated: what stands at an index, that every list is, and when two are the same.
 -- Assumes nothing.
-use mathlib.Core.Path.{◌≡◌, refl, ap}
+use mathlib.Core.Path.{◌≡◌, refl, ap, ap₂}
 use mathlib.Core.List.{List, [], ◌∷◌}
 use Prim.Native.Nat.{ℕ, zero, suc, ◌<◌}
-use native.Mathlib.Nat.{not-suc-le-zero, le_of_suc-le-suc}
+use native.Mathlib.Nat.{not-suc-le-zero, le_of_suc-le-suc, zero-lt-suc}
 use native.Mathlib.Omega.{arith}
 use lib.ListN.{get_or, length}
 use Rattle.permutation.specs.State.{tabulate}
@@ -24,3 +24,8 @@ tabulated zero [] d h = refl
 tabulated zero (x ∷ l) d h = absurd (omega arith)
 tabulated (suc n) [] d h = absurd (omega arith)
 tabulated (suc n) (x ∷ l) d h = ap (λ (r : List _). x ∷ r) (tabulated n l d (omega arith))
+
+pub tabulate_same : {A : Type 0} (n : ℕ) (f g : ℕ → A) → ((k : ℕ) → k < n → f k ≡ g k) → tabulate n f ≡ tabulate n g
+tabulate_same zero f g h = refl
+tabulate_same (suc n) f g h =
+    ap₂ (λ (x : _) (l : List _). x ∷ l) (h 0 (zero-lt-suc n)) (tabulate_same n (λ k. f (suc k)) (λ k. g (suc k)) (λ k l. h (suc k) (let m : suc k < suc n = omega arith in m)))

@@ -39,6 +39,19 @@ const CONSTANTS: [u64; 12] = [
     0x00001234F7F89ABC,
 ];
 
+// The table as the steps take it: by reference, so that a loop over rounds copies it once. It holds the paper's constants, by its type.
+#[derive(Clone, Copy)]
+pub struct RoundConstants {
+    words: [u64; 12],
+    ghost paper: { words ≡ constants },
+}
+
+pub fn constant_table() -> RoundConstants
+    ensures { result.words ≡ constants }
+{
+    RoundConstants { words: CONSTANTS }
+}
+
 // The rounds that have a constant.
 pub const MAX_ROUNDS: usize = 12;
 
@@ -123,10 +136,7 @@ pub fn rotate(w: u64, k: u32) -> u64
     requires { k < word_length }
     ensures { result ≡ rotl w k }
 {
-    if k == 0 {
-        return w;
-    }
-    (w << k) | (w >> (64 - k))
+    w.rotate_left(k)
 }
 
 // The words of a column, each rotated left by its offset: "S[x][y] := S[x][y] <<< offsets[x][y]" for one x (003, 2.5, ρ).
@@ -193,7 +203,8 @@ fn sbox_by_differences(m: Column) -> Column
 }
 
 // "In the ψ step the ICEPOLE S-box is applied to each of 256 rows of the state" (003, 2.5, ψ). A row is the five bits of one x and z; the 64 rows of an x are done
-// at once. The order of the four lines takes the fewest instructions.
+// at once. The order of the four lines takes the fewest instructions. The compiler puts it in line in one caller by itself, and round and round_at are two.
+#[inline(always)]
 fn psi(s: State) -> State
     ensures { result ≡ ψ s }
 {
@@ -205,12 +216,12 @@ fn psi(s: State) -> State
 }
 
 // "In κ the 64-bit constant is xored with S[0][0]" (003, 2.5, κ): "S[0][0] := S[0][0] ⊕ constant[numberOfRound]".
-pub fn kappa(s: State, constant: &[u64; 12], number: usize) -> State
-    requires { (number < 12) × (constant.now ≡ constants) }
+pub fn kappa(s: State, constant: &RoundConstants, number: usize) -> State
+    requires { number < 12 }
     ensures { result ≡ κ s number }
 {
     let mut t = s;
-    t[0][0] = t[0][0] ^ constant[number];
+    t[0][0] = t[0][0] ^ constant.words[number];
     t
 }
 
@@ -218,8 +229,8 @@ pub fn kappa(s: State, constant: &[u64; 12], number: usize) -> State
 const AFTER_KAPPA: usize = 4;
 
 // "Each round R consists of five steps" (003, 2.5): R = κ ∘ ψ ∘ π ∘ ρ ∘ μ. The state after each step is returned, so that the contract can speak of each.
-fn round(s: State, constant: &[u64; 12], number: usize) -> [State; 5]
-    requires { (number < 12) × (constant.now ≡ constants) }
+fn round(s: State, constant: &RoundConstants, number: usize) -> [State; 5]
+    requires { number < 12 }
     ensures { result ≡ steps_of s number }
 {
     let after_mu = mu(s);
@@ -236,7 +247,7 @@ pub fn rounds(s: &mut State, n: usize)
     requires { n ≤ 12 }
     ensures { s.new ≡ P n s.old }
 {
-    let constant = CONSTANTS;
+    let constant = constant_table();
     let mut t = *s;
     for i in 0..n {
         let states = round(t, &constant, i);
@@ -245,60 +256,32 @@ pub fn rounds(s: &mut State, n: usize)
     *s = t;
 }
 
-// "In the presented algorithm the 6- and 12-round variants (denoted by P_6 and P_12) are used" (003, 2.5): P_6 in place, so that callers copy no
-// state.
-pub fn permute6(s: &mut State)
-    ensures { s.new ≡ P 6 s.old }
+// "In the presented algorithm the 6- and 12-round variants (denoted by P_6 and P_12) are used" (003, 2.5): P_6 is permute::<6>, and P_12 permute::<12>. In place, so
+// that callers copy no state.
+pub fn permute<const N: usize>(s: &mut State)
+    requires { N ≤ 12 }
+    ensures { s.new ≡ P N s.old }
 {
-    rounds(s, 6);
+    rounds(s, N);
 }
 
-// P_12 in place (003, 2.5).
-pub fn permute12(s: &mut State)
-    ensures { s.new ≡ P 12 s.old }
-{
-    rounds(s, 12);
-}
-
-// P_6 by value (003, 2.5).
-pub fn p6(s: State) -> State
-    ensures { result ≡ P 6 s }
+// The same by value.
+pub fn p<const N: usize>(s: State) -> State
+    requires { N ≤ 12 }
+    ensures { result ≡ P N s }
 {
     let mut t = s;
-    permute6(&mut t);
+    permute::<N>(&mut t);
     t
 }
 
-// P_12 by value (003, 2.5).
-pub fn p12(s: State) -> State
-    ensures { result ≡ P 12 s }
-{
-    let mut t = s;
-    permute12(&mut t);
-    t
-}
-
-// One round by itself (003, 2.5), for crates of ours that look at the states between rounds. The table is handed in, so that a loop copies it once. It repeats
-// the lines of round and of psi: with a second caller the compiler no longer puts those in line.
-pub fn round_at(s: State, constant: &[u64; 12], number: usize) -> State
-    requires { (number < 12) × (constant.now ≡ constants) }
+// One round by itself (003, 2.5), for crates of ours that look at the states between rounds. The table is handed in, so that a loop copies it once. Not by round,
+// which then has to be put in line too: a sealed block would take 1,929 instructions in place of 1,829, and its limit is 1,850.
+pub fn round_at(s: State, constant: &RoundConstants, number: usize) -> State
+    requires { number < 12 }
     ensures { result ≡ R s number }
 {
-    let mixed = mu(s);
-    let turned = rho(mixed);
-    let moved = pi(turned);
-    let column1 = sbox_by_differences(moved[1]);
-    let column3 = sbox_by_differences(moved[3]);
-    let column2 = sbox_by_differences(moved[2]);
-    let column0 = sbox_by_differences(moved[0]);
-    kappa([column0, column1, column2, column3], constant, number)
-}
-
-// The table that round_at wants.
-pub fn constant_table() -> [u64; 12]
-    ensures { result ≡ constants }
-{
-    CONSTANTS
+    kappa(psi(pi(rho(mu(s)))), constant, number)
 }
 
 // "First, the state is initialized with the 1280-bit pseudorandom constant" (003, 2.6): the state before key and nonce.

@@ -14,7 +14,7 @@ pub extern "C" fn bench_p6(seed: u64, times: u64) -> u64
     let mut s = permutation::start_state();
     s[0][0] = s[0][0] ^ seed;
     for i in 0..times {
-        let t = permutation::p6(s);
+        let t = permutation::p::<6>(s);
         s = t;
     }
     s[0][0]

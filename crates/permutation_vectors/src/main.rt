@@ -83,9 +83,9 @@ fn main(rt: HostRuntime) -> io::Result<()> {
     for k in 0..14 {
         let s = state_of(k);
         print_heading(&rt, k, 6)?;
-        print_state(&rt, permutation::p6(s))?;
+        print_state(&rt, permutation::p::<6>(s))?;
         print_heading(&rt, k, 12)?;
-        print_state(&rt, permutation::p12(s))?;
+        print_state(&rt, permutation::p::<12>(s))?;
     }
     Ok(())
 }

@@ -3,13 +3,13 @@
 #![tactic(auto)]
 
 ghost use Rattle.std.specs.Prelude.{◌≡◌, ◌≤◌, ◌<◌};
-ghost use Rattle.permutation.specs.Permutation.{constants, max_rounds, P};
+ghost use Rattle.permutation.specs.Permutation.{max_rounds, P};
 ghost use Rattle.rounds_back.specs.Inverse.{μ⁻¹, ρ⁻¹, π⁻¹, ψ⁻¹, R⁻¹, P⁻¹};
 ghost use Rattle.rounds_back.specs.Driven.{ran, not_driven, driven_to, driven};
 ghost use Rattle.rounds_back.specs.declared.Direction.TheVariants.{Back, Forward};
 ghost use Rattle.rounds_back.specs.Words.{times4_words, times12_words, times14_words, times20_words, times21_words, sbox⁻¹Words};
 
-use permutation::MAX_ROUNDS;
+use permutation::{MAX_ROUNDS, RoundConstants};
 use state_bytes::STATE_BYTES;
 
 type State = [[u64; 5]; 4];
@@ -160,8 +160,8 @@ fn psi_back(s: State) -> State
 }
 
 // Round number `number` undone (003, 2.5): its steps undone, the last first. Kappa undoes itself.
-fn round_back(s: State, constant: &[u64; 12], number: usize) -> State
-    requires { (number < 12) × (constant.now ≡ constants) }
+fn round_back(s: State, constant: &RoundConstants, number: usize) -> State
+    requires { number < 12 }
     ensures { result ≡ R⁻¹ s number }
 {
     let before_kappa = permutation::kappa(s, constant, number);

@@ -14,13 +14,19 @@ use denote.Plain.{UInt}
 use denote.Shadow.{shadow}
 use native.Mathlib.Nat.{not-suc-le-zero, le_of_suc-le-suc}
 use native.Mathlib.Omega.{arith}
-use Rattle.permutation.specs.Permutation.{P}
-use Rattle.permutation.proofs.Tabulate.{get_or-each, get_or-tabulate, tabulated}
+use Rattle.bits.specs.Bits.{bit}
+use Rattle.bits.proofs.Laws.{bit-low}
+use Rattle.permutation.specs.Permutation.{ρ, π, ψ, κ, R, P}
+use Rattle.permutation.proofs.Alike.{mu_same}
+use Rattle.permutation.proofs.Bounds.{words}
+use Rattle.permutation.proofs.Tabulate.{get_or-each, get_or-tabulate, tabulate_same, tabulated}
 use Rattle.permutation.specs.State.{State, IsState, at, state, tabulate}
-use Rattle.bytes_le.proofs.All.{le-at, le_at-less}
+use Rattle.bytes_le.proofs.All.{all-le, all_append, le-at, le_at-less}
 use Rattle.bytes_le.proofs.Laws.{unle-8}
 use Rattle.bits.specs.Bits.{word_range}
-use Rattle.bytes_le.specs.Bytes.{Bytes, AllBytes, le, le_at}
+use Rattle.bytes_le.specs.Bytes.{Bytes, AllBytes, le, unle, le_at}
+use Rattle.state_bytes.proofs.Lengths.{length-bytes}
+use Rattle.state_bytes.proofs.Words.{bytes_word}
 use Rattle.state_bytes.specs.StateBytes.{Shape, bytes_below, bytes_of, column, permuted, state_length, state_of, state_words, word_of}
 
 there_and_back : (f : ℕ → ℕ → ℕ) → ((x y : ℕ) → f x y < word_range) → state_of (bytes_of (state f)) ≡ state f
@@ -57,9 +63,6 @@ state-shaped s w = (
   λ x y. subst⁻¹ (λ (t : State). at t x y < word_range) w.2 (word_below w.0 w.1 x y),
 )
 
-pub state-of-bytes : (s : State) → Shape s → ((x y : ℕ) → at s x y < word_range) → state_of (bytes_of s) ≡ s
-state-of-bytes s h l = state-held s (shaped-state s h l)
-
 -- ---- bytes, and the state that has them
 -- word w of the state whose bytes are v
 pub word-of-bytes : (v : Bytes) (w : ℕ) → w < state_words → word_of (state_of v) w ≡ le_at 8 v (8 * w)
@@ -89,17 +92,46 @@ pub state-of-is : (v : Bytes) → AllBytes v → IsState (state_of v)
 unfolding state_of column
 state-of-is v all = (λ x y. le_at 8 v (8 * (x + 4 * y)), λ x y. le_at-less v all 8 (8 * (x + 4 * y)), refl)
 
--- n rounds on the words are n rounds on the bytes
-pub permuted-bytes : (n : ℕ) (s : State) → Shape s → ((x y : ℕ) → at s x y < word_range) → bytes_of (P n s) ≡ permuted n (bytes_of s)
-unfolding permuted
-permuted-bytes n s h l = ap (λ (s : State). bytes_of (P n s)) (sym (state-of-bytes s h l))
+-- ---- a state and the one that has its bytes
+all-below : (s : State) (w : ℕ) → AllBytes (bytes_below s w)
+all-below s zero = tt
+all-below s (suc w) = all_append (bytes_below s w) (le 8 (word_of s w)) (all-below s w) (all-le 8 (word_of s w))
 
--- ---- what the program's own types tell
+-- they have the same bits, whatever the state is
+bit-held : (s : State) (x y z : ℕ) → x < 4 → y < 5 → z < 64 → bit (at s x y) z ≡ bit (at (state_of (bytes_of s)) x y) z
+unfolding le_at
+bit-held s x y z hx hy hz =
+    let w = x + 4 * y in
+    let ex : w % 4 ≡ x = omega arith in
+    let ey : w / 4 ≡ y = omega arith in
+    let hw : w < state_words = omega arith in
+    let low : unle (le 8 (word_of s w)) ≡ word_of s w % word_range = omega arith in
+    let held : word_of (state_of (bytes_of s)) w ≡ word_of s w % word_range =
+    word-of-bytes (bytes_of s) w hw ∙ ap unle (bytes_word s w hw) ∙ low in
+    ap₂ (λ (i j : ℕ). bit (at s i j) z) (sym ex) (sym ey)
+    ∙ sym (bit-low (word_of s w) 64 z hz)
+    ∙ ap (λ (a : ℕ). bit a z) (sym held)
+    ∙ ap₂ (λ (i j : ℕ). bit (at (state_of (bytes_of s)) i j) z) ex ey
+
+rounds-held : (n : ℕ) (s : State) → P (suc n) s ≡ P (suc n) (state_of (bytes_of s))
+unfolding P R
+rounds-held zero s =
+    ap (λ (t : State). κ (ψ (π (ρ t))) 0)
+    (mu_same s (state_of (bytes_of s)) (λ z hz. tabulate_same 4 _ _ (λ x hx. tabulate_same 5 _ _ (λ y hy. bit-held s x y z hx hy hz))))
+rounds-held (suc n) s = ap (λ (t : State). R t (suc n)) (rounds-held n s)
+
+-- n rounds on the words are n rounds on the bytes
+pub permuted-bytes : (n : ℕ) (s : State) → bytes_of (P n s) ≡ permuted n (bytes_of s)
+unfolding permuted P bytes_of
+permuted-bytes zero s = sym (bytes-of-state (bytes_of s) (all-below s state_words) (length-bytes s))
+permuted-bytes (suc n) s = ap bytes_of (rounds-held n s)
+
+-- ---- what the program's own type [[u64; 5]; 4] tells of a value: that it is a state of the core (by `shaped-state`)
 rows : (xs : List (List ℕ)) (us : List Val) → shadow (each (List ℕ) (Array (UInt w64) 5).own_val xs us) → (x : ℕ) → x < length xs → length (get_or xs x []) ≡ 5
 rows [] us p x h = absurd (not-suc-le-zero h)
 rows (r ∷ xs) [] p x h = absurd p
 rows (r ∷ xs) (u ∷ us) p zero h = p.0.1.0.1
 rows (r ∷ xs) (u ∷ us) p (suc x) h = rows xs us p.1 x (le_of_suc-le-suc h)
 
-pub shape : (s : State) (vs : List Val) → Is (Array (Array (UInt w64) 5) 4) s vs → Shape s
-shape s vs p = record { four = p.1.0.1; five = λ x h. rows s p.0 p.1.1 x (rw p.1.0.1 h) }
+pub told : (s : State) (vs : List Val) → Is (Array (Array (UInt w64) 5) 4) s vs → Shape s × ((x y : ℕ) → at s x y < word_range)
+told s vs p = (record { four = p.1.0.1; five = λ x h. rows s p.0 p.1.1 x (rw p.1.0.1 h) }, words s vs p)

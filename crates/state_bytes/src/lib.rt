@@ -1,11 +1,9 @@
 // The state of ICEPOLE: its words, read and written one by one, with contracts that speak of its bytes. Internal: only crates of ours call these functions.
 #![tactic(auto)]
 
-ghost use Rattle.std.specs.Prelude.{◌≡◌, ℕ, ◌+◌, ◌*◌, ◌≤◌, ◌<◌, length, take, drop};
-ghost use Rattle.bits.specs.Bits.{word_range};
-ghost use Rattle.bytes_le.specs.Bytes.{le, put_bytes};
-ghost use Rattle.permutation.specs.State.{at};
-ghost use Rattle.state_bytes.specs.StateBytes.{Shape, state_words, state_length, bytes_of, state_of, permuted, start_bytes};
+ghost use Rattle.std.specs.Prelude.{◌≡◌, ◌+◌, ◌*◌, ◌≤◌, ◌<◌, length, take, drop};
+ghost use Rattle.bytes_le.specs.Bytes.{le, le_at, put_bytes};
+ghost use Rattle.state_bytes.specs.StateBytes.{state_words, state_length, bytes_of, state_of, permuted, start_bytes};
 
 type State = [[u64; 5]; 4];
 
@@ -14,18 +12,11 @@ const STATE_WORDS: usize = 20;
 
 pub const STATE_BYTES: usize = 8 * STATE_WORDS;
 
-// What its type tells of a state. A proof is told so of a parameter by value, and not of what a reference refers to: the functions below ask here. The call
-// does nothing, and nothing of it is left in the compiled program.
-fn shaped(s: State)
-    ensures { Shape s × ((x y : ℕ) → at s x y < word_range) }
-{}
-
 // Word number w.
 pub fn word(s: &State, w: usize) -> u64
     requires { w < state_words }
     ensures { le 8 result ≡ take 8 (drop (8 * w) (bytes_of s.now)) }
 {
-    shaped(*s);
     s[w % 4][w / 4]
 }
 
@@ -33,8 +24,8 @@ pub fn set_word(s: &mut State, w: usize, x: u64)
     requires { w < state_words }
     ensures { bytes_of s.new ≡ put_bytes (bytes_of s.old) (8 * w) (le 8 x) }
 {
-    shaped(*s);
-    s[w % 4][w / 4] = x;
+    let column = &mut s[w % 4];
+    column[w / 4] = x;
 }
 
 // The state whose bytes stand at the front of b.
@@ -42,12 +33,17 @@ pub fn load_state(s: &mut State, b: &[u8])
     requires { state_length ≤ length b.now }
     ensures { bytes_of s.new ≡ take state_length b.now }
 {
-    let mut w: usize = 0;
-    while w < STATE_WORDS {
-        let k = bytes_le::load_u64(b, 8 * w);
-        set_word(s, w, k);
-        w += 1;
+    for w in 0..STATE_WORDS {
+        set_word(s, w, bytes_le::load_u64(b, 8 * w));
     }
+}
+
+// Word number w of the state whose bytes stand in b from index at on.
+fn word_in(b: &[u8], at: usize, w: usize) -> u64
+    requires { (w < state_words) × (at + state_length ≤ length b.now) }
+    ensures { result ≡ le_at 8 (take state_length (drop at b.now)) (8 * w) }
+{
+    bytes_le::load_u64(b, at + 8 * w)
 }
 
 // The state whose bytes stand in b from index at on, by value.
@@ -56,8 +52,9 @@ pub fn state_in(b: &[u8], at: usize) -> State
     ensures { result ≡ state_of (take state_length (drop at b.now)) }
 {
     let mut s = [[0; 5]; 4];
-    load_state(&mut s, &b[at..]);
-    shaped(s);
+    for w in 0..STATE_WORDS {
+        s[w % 4][w / 4] = word_in(b, at, w);
+    }
     s
 }
 
@@ -66,11 +63,8 @@ pub fn store_state(s: &State, b: &mut [u8])
     requires { state_length ≤ length b.old }
     ensures { b.new ≡ put_bytes b.old 0 (bytes_of s.now) }
 {
-    let mut w: usize = 0;
-    while w < STATE_WORDS {
-        let k = word(s, w);
-        bytes_le::store_u64(b, 8 * w, k);
-        w += 1;
+    for w in 0..STATE_WORDS {
+        bytes_le::store_u64(b, 8 * w, word(s, w));
     }
 }
 
@@ -81,17 +75,10 @@ pub fn start(s: &mut State)
     *s = permutation::start_state();
 }
 
-// P6 and P12.
-pub fn permute6(s: &mut State)
-    ensures { bytes_of s.new ≡ permuted 6 (bytes_of s.old) }
+// P6 is permute::<6>, and P12 permute::<12>.
+pub fn permute<const N: usize>(s: &mut State)
+    requires { N ≤ 12 }
+    ensures { bytes_of s.new ≡ permuted N (bytes_of s.old) }
 {
-    shaped(*s);
-    permutation::permute6(s);
-}
-
-pub fn permute12(s: &mut State)
-    ensures { bytes_of s.new ≡ permuted 12 (bytes_of s.old) }
-{
-    shaped(*s);
-    permutation::permute12(s);
+    permutation::permute::<N>(s);
 }

@@ -9,7 +9,7 @@ use Rattle.blocks.proofs.finish.Goals as goal
 pub returns : goal.returns
 returns c =
     let v = bytes_of c.args.s.now in
-    c.permute6.ensures
+    c.permute.ensures
     ∙ ap (permuted 6)
     (c.set_word.ensures
     ∙ padded-word v c.args.n c.args.frame _ (length-bytes _) c.requires.0 c.requires.1 c.word-z.ensures)

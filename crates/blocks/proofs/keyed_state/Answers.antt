@@ -19,7 +19,7 @@ returns c =
     let k = a.key.now in
     let n = a.nonce.now in
     let e : take (length k + length n) (drop 0 (k ++ n)) ≡ k ++ n = take_all (length k + length n) (k ++ n) (rw length-append (omega arith)) in
-    c.permute12.ensures
+    c.permute.ensures
     ∙ ap (permuted 12)
     (c.absorb_bytes.ensures
     ∙ ap₂ xor_with c.start.ensures e

@@ -19,7 +19,7 @@ unfolding repeated
 loop-i-preserved c =
     let n = c.loop-i.i in
     let s = add_constant start c.args.seed in
-    (omega arith, c.p6-t.ensures ∙ ap (P 6) c.loop-i.invariant.1 ∙ ap (λ (k : ℕ). repeated 6 k s) (sym (add-one n)))
+    (omega arith, c.p-t.ensures ∙ ap (P 6) c.loop-i.invariant.1 ∙ ap (λ (k : ℕ). repeated 6 k s) (sym (add-one n)))
 
 pub returns : goal.returns
 returns c =

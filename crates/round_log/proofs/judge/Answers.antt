@@ -4,7 +4,6 @@ use mathlib.Core.Path.{◌≡◌, sym, ap, ap₂, ◌∙◌}
 use mathlib.Core.Bool.{Bool, true, false, cond}
 use Prim.Native.Nat.{◌+◌, ◌-◌}
 use native.Mathlib.Omega.{arith}
-use borrow.Author.Rules.{rules}
 use Rattle.round_log.specs.RoundLog.{judged}
 use Rattle.round_log.specs.declared.Verdict.TheVariants.{Differs}
 use Rattle.round_log.proofs.Judging.{judged-by}
@@ -40,6 +39,3 @@ returns c =
     let e : c.loop-i.i ≡ a.r = omega arith in
     let z : a.r - c.loop-i.i ≡ 0 = omega arith in
     sym (ap₂ (judged a.log.now) e z) ∙ c.loop-i.invariant.1
-
-pub round_at-expected-requires : goal.round_at-expected-requires
-round_at-expected-requires c = (omega arith, search rules)

@@ -11,19 +11,17 @@ use Rattle.state_bytes.proofs.Turns.{eight-more}
 use Rattle.state_bytes.proofs.load_state.Goals as goal
 
 pub loop-w-init : goal.loop-w-init
-loop-w-init c = (omega arith, put-none _ _)
+loop-w-init c = put-none _ _
 
 pub loop-w-preserved : goal.loop-w-preserved
 loop-w-preserved c =
-    let n : length (bytes_of c.args.s.now) ≡ state_length = length-bytes c.args.s.now in (
-      omega arith,
-      c.set_word.ensures
-          ∙ eight-more (bytes_of c.args.s.now) c.args.b.now c.loop-w.w _ _ (omega arith) (omega arith) c.requires c.loop-w.invariant.1 c.load_u64-k.ensures.1,
-    )
+    let n : length (bytes_of c.args.s.now) ≡ state_length = length-bytes c.args.s.now in
+    c.set_word.ensures
+    ∙ eight-more (bytes_of c.args.s.now) c.args.b.now c.loop-w.w _ _ (omega arith) (omega arith) c.requires c.loop-w.invariant c.load_u64.ensures.1
 
 pub returns : goal.returns
 returns c =
     let e : c.loop-w.w ≡ state_words = omega arith in
     let n : length (bytes_of c.args.s.now) ≡ state_length = length-bytes c.args.s.now in
     let m : length (take state_length c.args.b.now) ≡ state_length = length-take-le state_length c.args.b.now c.requires in
-    rw e at c.loop-w.invariant.1 ∙ put_whole (bytes_of c.args.s.now) (take state_length c.args.b.now) (omega arith)
+    rw e at c.loop-w.invariant ∙ put_whole (bytes_of c.args.s.now) (take state_length c.args.b.now) (omega arith)

@@ -1,6 +1,6 @@
 -- `state_bytes::store_state` meets its contract. The loop's invariant: the bytes of the first w words are put.
 -- Assumes nothing.
-use mathlib.Core.Path.{◌≡◌, refl, ap, ◌∙◌}
+use mathlib.Core.Path.{◌≡◌, ap, ◌∙◌}
 use native.Mathlib.Omega.{arith}
 use lib.ListN.{length}
 use lib.Seq.{take_all}
@@ -12,24 +12,16 @@ use Rattle.state_bytes.proofs.Turns.{eight-more}
 use Rattle.state_bytes.proofs.store_state.Goals as goal
 
 pub loop-w-init : goal.loop-w-init
-loop-w-init c = (omega arith, put-none _ _, refl)
+loop-w-init c = put-none _ _
 
 pub loop-w-preserved : goal.loop-w-preserved
 loop-w-preserved c =
-    let put = c.store_u64 in
-    let n : length (bytes_of c.args.s.now) ≡ state_length = length-bytes c.args.s.now in (
-      omega arith,
-      put.ensures.1
-          ∙ eight-more c.args.b.now (bytes_of c.args.s.now) c.loop-w.w _ _ (omega arith) c.requires (omega arith) c.loop-w.invariant.1
-          c.word-k.ensures,
-      put.auto.out ∙ c.loop-w.invariant.2,
-    )
-
-pub shape_of-b : goal.shape_of-b
-shape_of-b c = c.loop-w.invariant.2
+    let n : length (bytes_of c.args.s.now) ≡ state_length = length-bytes c.args.s.now in
+    c.store_u64.ensures.1
+    ∙ eight-more c.args.b.now (bytes_of c.args.s.now) c.loop-w.w _ _ (omega arith) c.requires (omega arith) c.loop-w.invariant c.word.ensures
 
 pub returns : goal.returns
 returns c =
     let e : c.loop-w.w ≡ state_words = omega arith in
     let n : length (bytes_of c.args.s.now) ≡ state_length = length-bytes c.args.s.now in
-    rw e at c.loop-w.invariant.1 ∙ ap (put_bytes c.args.b.now 0) (take_all state_length (bytes_of c.args.s.now) (omega arith))
+    rw e at c.loop-w.invariant ∙ ap (put_bytes c.args.b.now 0) (take_all state_length (bytes_of c.args.s.now) (omega arith))

@@ -5,6 +5,4 @@ use Rattle.state_bytes.proofs.Words.{bytes_word}
 use Rattle.state_bytes.proofs.word.Goals as goal
 
 pub returns : goal.returns
-returns c =
-    let a = c.args in
-    sym (bytes_word a.s.now c.shaped.ensures.0 a.w c.requires)
+returns c = sym (bytes_word c.args.s.now c.args.w c.requires)
