@@ -49,6 +49,12 @@ all-zeros : (k : ℕ) → AllBytes (replicate k 0)
 all-zeros zero = tt
 all-zeros (suc k) = (zero-lt-suc 255, all-zeros k)
 
+-- eight bytes
+pub loaded-word : (bs : Bytes) (x : ℕ) → AllBytes bs → length bs ≡ 8 → x < 2 ^ 64 → x ≡ from_le_bytes w64 bs → (x ≡ unle bs) × (le 8 x ≡ bs)
+loaded-word bs x all len f e =
+    let w = sym (to-le x) ∙ le_bytes_8 bs x len (byte-less bs all) e in
+    (sym (unle-8 x f) ∙ ap unle w, w)
+
 -- n bytes, with zeros behind them
 pub loaded : (b : Bytes) (at n x : ℕ) → AllBytes b → n ≤ 8 → at + n ≤ length b → x < 2 ^ 64
     → x ≡ from_le_bytes w64 (take n (drop at b) ++ drop n (replicate 8 0)) → (x ≡ le_at n b at) × (le n x ≡ take n (drop at b)) × (x < 256 ^ n)
@@ -57,6 +63,6 @@ loaded b at n x all h l f e =
     let part : Bytes = take n (drop at b) in
     let bs : Bytes = part ++ drop n (replicate 8 0) in
     let len : length bs ≡ 8 = simp (length-append, length-drop, length_part b at n l) (omega arith) in
-    let w : to_le_bytes w64 x ≡ bs = le_bytes_8 bs x len (byte-less bs (all_append part _ (all_take n _ (all_drop at b all)) (all_drop n _ (all-zeros 8)))) e in
-    let same : x ≡ unle part = sym (unle-8 x f) ∙ ap unle (sym (to-le x) ∙ w ∙ ap (λ (r : Bytes). part ++ r) (drop-replicate n 8 0)) ∙ unle-zeros part (8 - n) in
+    let whole = loaded-word bs x (all_append part _ (all_take n _ (all_drop at b all)) (all_drop n _ (all-zeros 8))) len f e in
+    let same : x ≡ unle part = whole.0 ∙ ap (λ (r : Bytes). unle (part ++ r)) (drop-replicate n 8 0) ∙ unle-zeros part (8 - n) in
     (same, ap (le n) same ∙ le-at b all n at l, rw same (le_at-less b all n at))
