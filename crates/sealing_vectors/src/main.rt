@@ -54,7 +54,7 @@ fn name(variant: Variant) -> &'static str {
     }
 }
 
-// The first part of a bytes of associated data, cut in one of four ways.
+// The first part of a bytes of associated data, cut in one of four ways. They are numbers since the cases take them in turn, by the sum of two indices.
 fn first_part(a: usize, way: usize) -> usize
     ensures { result ≤ a }
 {
