@@ -7,6 +7,7 @@ use native.Mathlib.Omega.{arith}
 use native.Mathlib.Nat.{add_assoc, zero-add}
 use lib.ListN.{length, take, drop, length-append, length-drop, take-append-drop, set, drop_of_length-le}
 use lib.Seq.{length-take-le, take-append-le, drop-append-le, drop-append-add, drop-drop, take-take, take_at, drop_at, sets, sets-eq, set_at, drop-cons}
+use borrow.Rule.Slice.PartMut.{put_mid}
 use Rattle.bytes_le.specs.Bytes.{Bytes, le, put_bytes, unle}
 
 pub length-le : (n x : ℕ) → length (le n x) ≡ n
@@ -60,6 +61,11 @@ put-part l at vs k h e =
 pub sets-put : (vs l : List ℕ) (at : ℕ) → at + length vs ≤ length l → sets l at vs ≡ put_bytes l at vs
 unfolding put_bytes
 sets-put vs l at h = sets-eq vs l at h ∙ append_assoc (take at l) vs (drop (at + length vs) l)
+
+-- a copy over a part is a put
+pub part-put : (l vs : List ℕ) (at k : ℕ) → k ≡ length vs → put_mid at k l vs ≡ put_bytes l at vs
+unfolding put_bytes
+part-put l vs at k e = ap (λ (r : List ℕ). take at l ++ (vs ++ r)) (drop-drop k at l ∙ ap (λ (i : ℕ). drop (at + i) l) e)
 
 -- one more byte
 pub put-snoc : (l : List ℕ) (at : ℕ) (vs : List ℕ) (n v : ℕ) → n ≡ at + length vs → n < length l

@@ -32,6 +32,7 @@ fn xor_each(s: Sheet, d: u64) -> Sheet
     [s[0] ^ d, s[1] ^ d, s[2] ^ d, s[3] ^ d, s[4] ^ d]
 }
 
+// Loops over x and t are the standard's. With array::from_fn a proof would have to follow the closure's state from call to call, and `search` did not.
 // A'[x, y, z] = A[x, y, z] ⊕ D[x, z], where D[x, z] = C[(x - 1) mod 5, z] ⊕ C[(x + 1) mod 5, (z - 1) mod w] (FIPS 202, 3.2.1).
 fn theta(a: Lanes) -> Lanes
     ensures { result ≡ θ a }
@@ -223,9 +224,9 @@ pub fn round_constants() -> [u64; 12]
 {
     let mut r = 0x0123456789ABCDEF;
     let mut table = [0; 12];
-    for n in 0..12 {
+    for constant in &mut table {
         r = step(r);
-        table[n] = r;
+        *constant = r;
     }
     table
 }

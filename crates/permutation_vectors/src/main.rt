@@ -5,6 +5,8 @@ use std::io;
 
 type State = [[u64; 5]; 4];
 
+const ZEROS: State = [[0; 5]; 4];
+
 // One step of the generator xorshift64.
 fn xorshift(v: u64) -> u64 {
     let a = v ^ (v << 13);
@@ -14,77 +16,50 @@ fn xorshift(v: u64) -> u64 {
 
 // The words, in word order, are the generator's first twenty numbers from seed on.
 fn pseudorandom(seed: u64) -> State {
-    let mut s = [[0; 5]; 4];
+    let mut s = ZEROS;
     let mut v = seed;
-    for w in 0..20 {
-        v = xorshift(v);
-        s[w % 4][w / 4] = v;
+    for y in 0..5 {
+        for lanes in &mut s {
+            v = xorshift(v);
+            lanes[y] = v;
+        }
     }
     s
 }
 
-// Word w is even where w is even, else odd.
-fn alternating(even: u64, odd: u64) -> State {
-    let a = [even; 5];
-    let b = [odd; 5];
-    [a, b, a, b]
-}
-
-// State number k.
-fn state_of(k: u64) -> State {
-    if k == 0 {
-        return [[0; 5]; 4];
-    }
-    if k == 1 {
-        return permutation::start_state();
-    }
-    if k == 2 {
-        return [[0xFFFFFFFFFFFFFFFF; 5]; 4];
-    }
-    if k == 3 {
-        let mut s = [[0; 5]; 4];
-        s[0][0] = 1;
-        return s;
-    }
-    if k == 4 {
-        let mut s = [[0; 5]; 4];
-        s[3][4] = 0x8000000000000000;
-        return s;
-    }
-    if k == 5 {
-        return alternating(0x5555555555555555, 0xAAAAAAAAAAAAAAAA);
-    }
-    pseudorandom(k)
-}
-
-// Four words and a line end.
-fn print_row(rt: &impl Print, a: u64, b: u64, c: u64, d: u64) -> io::Result<()> {
-    println!(rt; "{a:016x} {b:016x} {c:016x} {d:016x}")
-}
-
-fn print_heading(rt: &impl Print, k: u64, rounds: u64) -> io::Result<()> {
-    println!(rt; "state {k} rounds {rounds}")
+// The states that are no seed's.
+fn chosen() -> [State; 6] {
+    let mut lowest_bit = ZEROS;
+    lowest_bit[0][0] = 1;
+    let mut highest_bit = ZEROS;
+    highest_bit[3][4] = 1 << 63;
+    let a = [0x5555555555555555; 5];
+    let b = [0xAAAAAAAAAAAAAAAA; 5];
+    [
+        ZEROS,
+        permutation::start_state(),
+        [[u64::MAX; 5]; 4],
+        lowest_bit,
+        highest_bit,
+        [a, b, a, b],
+    ]
 }
 
 // The words in word order, a line for each y.
 fn print_state(rt: &impl Print, s: State) -> io::Result<()> {
-    let a = s[0];
-    let b = s[1];
-    let c = s[2];
-    let d = s[3];
-    print_row(rt, a[0], b[0], c[0], d[0])?;
-    print_row(rt, a[1], b[1], c[1], d[1])?;
-    print_row(rt, a[2], b[2], c[2], d[2])?;
-    print_row(rt, a[3], b[3], c[3], d[3])?;
-    print_row(rt, a[4], b[4], c[4], d[4])
+    let [a, b, c, d] = s;
+    for y in 0..5 {
+        println!(rt; "{:016x} {:016x} {:016x} {:016x}", a[y], b[y], c[y], d[y])?;
+    }
+    Ok(())
 }
 
 fn main(rt: HostRuntime) -> io::Result<()> {
-    for k in 0..14 {
-        let s = state_of(k);
-        print_heading(&rt, k, 6)?;
+    let seeded = (6..14).map(pseudorandom);
+    for (k, s) in chosen().into_iter().chain(seeded).enumerate() {
+        println!(rt; "state {k} rounds 6")?;
         print_state(&rt, permutation::p::<6>(s))?;
-        print_heading(&rt, k, 12)?;
+        println!(rt; "state {k} rounds 12")?;
         print_state(&rt, permutation::p::<12>(s))?;
     }
     Ok(())

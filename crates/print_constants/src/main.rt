@@ -13,7 +13,7 @@ type State = [[u64; 5]; 4];
 // 16 digits and a line end, in ASCII.
 type Line = [u8; 17];
 
-// A hex digit in ASCII: 48 is 0, and 55 + 10 is A.
+// A hex digit in ASCII: 48 is 0, and 55 + 10 is A. It isn't left to {:016X}: text's contract names each byte, and of a format only a String on the heap would.
 fn glyph(d: u64) -> u8
     requires { d < 16 }
     ensures { result ≡ Text·glyph d }
@@ -47,8 +47,8 @@ fn text() -> [Line; 32]
     let s = constants::starting_words();
     let c = constants::round_constants();
     let mut lines = [[0; 17]; 32];
-    for k in 0..32 {
-        lines[k] = hex_line(number_on(s, c, k));
+    for (k, line) in lines.iter_mut().enumerate() {
+        *line = hex_line(number_on(s, c, k));
     }
     lines
 }
@@ -58,9 +58,8 @@ fn print_line(rt: &impl Print, line: Line) -> io::Result<()> {
 }
 
 fn main(rt: HostRuntime) -> io::Result<()> {
-    let lines = text();
-    for k in 0..32 {
-        print_line(&rt, lines[k])?;
+    for line in text() {
+        print_line(&rt, line)?;
     }
     Ok(())
 }

@@ -4,7 +4,17 @@
 
 ghost use Rattle.std.specs.Prelude.{◌≡◌, ◌+◌, ◌≤◌, ◌<◌, length};
 
-use std::io;
+use icepole::Variant;
+use std::{array, io};
+
+const VARIANTS: [Variant; 3] = [
+    Variant::Icepole128,
+    Variant::Icepole128a,
+    Variant::Icepole256a,
+];
+
+// Around one block and two, of 120 and of 128 bytes.
+const EDGES: [usize; 10] = [0, 1, 119, 120, 121, 127, 128, 129, 240, 256];
 
 // Everything is cut from one run of bytes, at these places.
 const KEY: usize = 0;
@@ -17,63 +27,34 @@ const ASSOCIATED: usize = 64;
 
 const MESSAGE: usize = 320;
 
+const RUN: usize = 576;
+
+// What is sealed, in parts of the run.
+#[derive(Clone, Copy)]
+struct Case<'a> {
+    variant: Variant,
+    key: &'a [u8],
+    nonce: &'a [u8],
+    secret: &'a [u8],
+    first: &'a [u8],
+    second: &'a [u8],
+    message: &'a [u8],
+}
+
 // Byte i of the run is (31 i + i div 7) mod 256.
-fn run() -> [u8; 576]
-    ensures { 576 ≡ length result }
-{
-    let mut b = [0u8; 576];
-    for i in 0..576 {
-        b[i] = ((31 * i + i / 7) % 256) as u8;
-    }
-    b
+fn run() -> [u8; RUN] {
+    array::from_fn(|i| ((31 * i + i / 7) % 256) as u8)
 }
 
-// Variant number k, and its sizes in the scope document's table.
-fn variant(k: usize) -> icepole::Variant {
-    match k {
-        0 => icepole::Variant::Icepole128,
-        1 => icepole::Variant::Icepole128a,
-        _ => icepole::Variant::Icepole256a,
+fn name(variant: Variant) -> &'static str {
+    match variant {
+        Variant::Icepole128 => "128",
+        Variant::Icepole128a => "128a",
+        Variant::Icepole256a => "256a",
     }
 }
 
-fn key_length(k: usize) -> usize
-    ensures { result ≤ 32 }
-{
-    if k == 2 { 32 } else { 16 }
-}
-
-fn nonce_length(k: usize) -> usize
-    ensures { result ≤ 16 }
-{
-    if k == 0 { 16 } else { 12 }
-}
-
-fn secret_length(k: usize) -> usize
-    ensures { result ≤ 16 }
-{
-    if k == 0 { 16 } else { 0 }
-}
-
-// Edge number i: around one block and two, of 120 and of 128 bytes.
-fn edge(i: usize) -> usize
-    ensures { result ≤ 256 }
-{
-    match i {
-        0 => 0,
-        1 => 1,
-        2 => 119,
-        3 => 120,
-        4 => 121,
-        5 => 127,
-        6 => 128,
-        7 => 129,
-        8 => 240,
-        _ => 256,
-    }
-}
-
-// The first part of a bytes of associated data, cut in one of four ways.
+// The first part of a bytes of associated data, cut in one of four ways. They are numbers since the cases take them in turn, by the sum of two indices.
 fn first_part(a: usize, way: usize) -> usize
     ensures { result ≤ a }
 {
@@ -85,118 +66,79 @@ fn first_part(a: usize, way: usize) -> usize
     }
 }
 
-// Seals m bytes of message under variant number k, with a bytes of associated data, the first s of them as the first part. Returns the refusal number.
-fn seal(k: usize, m: usize, s: usize, a: usize, b: &[u8], out: &mut [u8]) -> u32
-    requires { (m ≤ 256) × (s ≤ a) × (a ≤ 256) × (576 ≡ length b.now) }
+// A message of m bytes and a bytes of associated data, the first s of them as the first part.
+fn cut<'a>(run: &'a [u8; RUN], variant: Variant, m: usize, s: usize, a: usize) -> Case<'a>
+    requires { (m ≤ 256) × (s ≤ a) × (a ≤ 256) }
+    ensures { (length result.secret.now ≤ 16) × (length result.message.now ≤ 256) }
 {
-    let key = key_length(k);
-    let nonce = NONCE + nonce_length(k);
-    let secret = SECRET + secret_length(k);
-    let cut = ASSOCIATED + s;
-    let associated = ASSOCIATED + a;
-    let message = MESSAGE + m;
-    let r = icepole::seal(
-        variant(k),
-        &b[KEY..key],
-        &b[NONCE..nonce],
-        &b[SECRET..secret],
-        &b[ASSOCIATED..cut],
-        &b[cut..associated],
-        &b[MESSAGE..message],
-        out,
-    );
-    r.refusal
+    let q = icepole::sizes_of(variant);
+    let (first, second) = run[ASSOCIATED..ASSOCIATED + a].split_at(s);
+    Case {
+        variant,
+        key: &run[KEY..KEY + q.key],
+        nonce: &run[NONCE..NONCE + q.nonce],
+        secret: &run[SECRET..SECRET + q.secret],
+        first,
+        second,
+        message: &run[MESSAGE..MESSAGE + m],
+    }
 }
 
-// Whether a holds the n bytes of b from index at on at its front.
-fn same(a: &[u8], b: &[u8], at: usize, n: usize) -> bool
-    requires { at + n ≤ length b.now }
-{
-    if a.len() < n {
-        return false;
-    }
-    for i in 0..n {
-        if a[i] != b[at + i] {
-            return false;
-        }
-    }
-    true
+// Whether it was sealed.
+fn seals(c: &Case<'_>, out: &mut [u8]) -> bool {
+    let r = icepole::seal(
+        c.variant, c.key, c.nonce, c.secret, c.first, c.second, c.message, out,
+    );
+    r.refusal == 0
 }
 
 // Whether opening gives back message and secret number.
-fn opens(k: usize, m: usize, s: usize, a: usize, b: &[u8], sealed: &[u8]) -> bool
-    requires { (m ≤ 256) × (s ≤ a) × (a ≤ 256) × (576 ≡ length b.now) }
-{
-    let key = key_length(k);
-    let nonce = NONCE + nonce_length(k);
-    let cut = ASSOCIATED + s;
-    let associated = ASSOCIATED + a;
-    let mut out = [0u8; 256];
+fn opens(c: &Case<'_>, sealed: &[u8]) -> bool {
+    let mut out = [0; 256];
     let r = icepole::open_message(
-        variant(k),
-        &b[KEY..key],
-        &b[NONCE..nonce],
-        &b[ASSOCIATED..cut],
-        &b[cut..associated],
-        sealed,
-        &mut out,
+        c.variant, c.key, c.nonce, c.first, c.second, sealed, &mut out,
     );
-    let secret = r.secret;
     r.refusal == 0
-        && r.length == m
-        && same(&out, b, MESSAGE, m)
-        && same(&secret, b, SECRET, secret_length(k))
+        && r.length == c.message.len()
+        && out.starts_with(c.message)
+        && r.secret.starts_with(c.secret)
 }
 
 // Two hex digits for each byte.
 fn print_bytes(rt: &impl Print, b: &[u8]) -> io::Result<()> {
-    for i in 0..b.len() {
-        let byte = wide(b[i]);
+    for byte in b {
         print!(rt; "{byte:02x}")?;
     }
     Ok(())
 }
 
-fn wide(x: u8) -> u64 {
-    x as u64
-}
-
-fn print_heading(rt: &impl Print, k: usize, m: usize, s: usize, a: usize) -> io::Result<()>
-    requires { s ≤ a }
-{
-    let name = match k {
-        0 => "128",
-        1 => "128a",
-        _ => "256a",
-    };
-    let t = a - s;
-    print!(rt; "{name} message {m} associated {s} + {t}: ")
-}
-
 // One line: the lengths, the sealed message, and whether it was opened.
-fn print_case(rt: &impl Print, k: usize, m: usize, s: usize, a: usize) -> io::Result<()>
-    requires { (m ≤ 256) × (s ≤ a) × (a ≤ 256) }
+fn print_case(rt: &impl Print, c: &Case<'_>) -> io::Result<()>
+    requires { (length c.now.secret.now ≤ 16) × (length c.now.message.now ≤ 256) }
 {
-    let b = run();
-    let mut out = [0u8; 288];
-    let n = secret_length(k) + m + 16;
-    let refusal = seal(k, m, s, a, &b, &mut out);
-    print_heading(rt, k, m, s, a)?;
-    print_bytes(rt, &out[0..n])?;
-    if refusal == 0 && opens(k, m, s, a, &b, &out[0..n]) {
+    let (m, s, t) = (c.message.len(), c.first.len(), c.second.len());
+    let mut out = [0; 288];
+    let sealed = seals(c, &mut out);
+    let written = &out[..c.secret.len() + m + 16];
+    print!(rt; "{} message {m} associated {s} + {t}: ", name(c.variant))?;
+    print_bytes(rt, written)?;
+    if sealed && opens(c, written) {
         rt.println(" opened")
     } else {
         rt.println(" differs")
     }
 }
 
-// Case n is variant number n / 100, edge number n / 10 % 10 of message and n % 10 of associated data, whose parts go through the four ways.
+// The parts of the associated data go through the four ways.
 fn main(rt: HostRuntime) -> io::Result<()> {
-    for n in 0..300 {
-        let i = n / 10 % 10;
-        let j = n % 10;
-        let a = edge(j);
-        print_case(&rt, n / 100, edge(i), first_part(a, (i + j) % 4), a)?;
+    let run = run();
+    for variant in VARIANTS {
+        for (i, m) in EDGES.into_iter().enumerate() {
+            for (j, a) in EDGES.into_iter().enumerate() {
+                let s = first_part(a, (i + j) % 4);
+                print_case(&rt, &cut(&run, variant, m, s, a))?;
+            }
+        }
     }
     Ok(())
 }

@@ -1,13 +1,9 @@
--- `bytes_le::put_bytes` meets its contract. The loop's invariant: the first j bytes are put.
+-- `bytes_le::put_bytes` meets its contract. The loop's invariant: the first i bytes are put.
 -- Assumes nothing.
 use mathlib.Core.Path.{◌≡◌}
-use Prim.Native.Nat.{◌-◌, ◌≤◌}
-use lib.ListN.{length, take}
+use lib.ListN.{take}
 use Rattle.bytes_le.specs.Bytes.{put_bytes}
 use Rattle.bytes_le.proofs.put_bytes.Given as goal
 
-abbrev pub invariant-loop-j : goal.invariant-loop-j
-invariant-loop-j l = (l.j ≤ length l.src) × (l.out ≡ put_bytes l.initial.out l.at (take l.j l.src)) × (length l.out ≡ length l.initial.out)
-
-abbrev pub decreases-loop-j : goal.decreases-loop-j
-decreases-loop-j l = length l.src - l.j
+abbrev pub invariant-loop-i : goal.invariant-loop-i
+invariant-loop-i l = l.out ≡ put_bytes l.initial.out l.at (take l.i l.src)

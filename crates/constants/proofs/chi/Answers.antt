@@ -1,6 +1,6 @@
 -- `constants::chi` meets its contract. The loop's invariant: the sheets before x are done.
 -- Assumes nothing.
-use mathlib.Core.Path.{refl, ◌∙◌}
+use mathlib.Core.Path.{◌∙◌}
 use borrow.Author.Rules.{rules}
 use Rattle.permutation.proofs.Bounds.{words}
 use Rattle.constants.specs.Keccak.{StateArray}
@@ -16,6 +16,3 @@ pub returns : goal.returns
 returns c =
     let a : StateArray = c.args.a in
     filled-all 5 (chi-sheet a) _ _ _ c.loop-x-test.false c.loop-x.invariant ∙ chi-agrees a (words a _ c.well_formed.0)
-
-pub loop-x-init : goal.loop-x-init
-loop-x-init c = (search rules, search rules, refl)

@@ -1,6 +1,6 @@
 -- `constants::keccak_f` meets its contract. The loop's invariant: b is the state array after i rounds.
 -- Assumes nothing.
-use mathlib.Core.Path.{◌≡◌, refl, sym, ap, ◌∙◌}
+use mathlib.Core.Path.{refl, sym, ap, ◌∙◌}
 use Prim.Native.Nat.{ℕ}
 use native.Mathlib.Omega.{arith}
 use native.Mathlib.Numerals.{add-one}
@@ -20,8 +20,3 @@ loop-i-preserved c =
       c.round-next.ensures ∙ ap (λ (a : StateArray). Rnd a i) c.loop-i.invariant.1
           ∙ ap (λ (n : ℕ). rounds n c.args.a) (sym (add-one i)),
     )
-
-pub returns : goal.returns
-returns c =
-    let e : c.loop-i.i ≡ 24 = omega arith in
-    c.loop-i.invariant.1 ∙ ap (λ (n : ℕ). rounds n c.args.a) e

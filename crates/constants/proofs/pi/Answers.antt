@@ -1,21 +1,13 @@
 -- `constants::pi` meets its contract. The loop's invariant: the sheets before x are done.
 -- Assumes nothing.
-use mathlib.Core.Path.{refl, ◌∙◌}
-use borrow.Author.Rules.{rules}
+use mathlib.Core.Path.{◌∙◌}
 use Rattle.permutation.proofs.Bounds.{words}
 use Rattle.constants.specs.Keccak.{StateArray}
-use Rattle.constants.proofs.Lists.{filled_next, filled-all}
+use Rattle.constants.proofs.Lists.{filled-all}
 use Rattle.constants.proofs.Lanes.{pi-sheet, pi-agrees}
 use Rattle.constants.proofs.pi.Goals as goal
-
-pub loop-x-preserved : goal.loop-x-preserved
-loop-x-preserved c =
-    filled_next 5 (pi-sheet c.args.a) _ _ _ _ (search rules) refl c.loop-x.invariant
 
 pub returns : goal.returns
 returns c =
     let a : StateArray = c.args.a in
     filled-all 5 (pi-sheet a) _ _ _ c.loop-x-test.false c.loop-x.invariant ∙ pi-agrees a (words a _ c.well_formed.0)
-
-pub loop-x-init : goal.loop-x-init
-loop-x-init c = (search rules, search rules, refl)

@@ -1,23 +1,13 @@
 -- `constants::rho` meets its contract. The loop's invariant: x, y and b are those of the standard's loop after t turns.
 -- Assumes nothing.
 use mathlib.Core.Path.{◌≡◌, sym, ap, ◌∙◌}
-use Prim.Native.Nat.{ℕ, ◌+◌, ◌*◌, ◌%◌, ◌≤◌}
-use native.Mathlib.Nat.{mul-le-mul}
+use Prim.Native.Nat.{ℕ, ◌+◌, ◌*◌, ◌%◌}
 use native.Mathlib.Omega.{arith}
 use native.Mathlib.Numerals.{add-one}
 use Rattle.permutation.specs.State.{set_word}
 use Rattle.permutation.specs.Permutation.{rotl}
 use Rattle.constants.specs.Keccak.{StateArray, Walk, rho_turn, walk, ρ}
 use Rattle.constants.proofs.rho.Goals as goal
-
--- (t + 1)(t + 2) is at most 600
-pub overflow_mul-t : goal.overflow_mul-t
-overflow_mul-t c =
-    let t : ℕ = c.loop-t.t in
-    let l : t + 1 ≤ 24 = omega arith in
-    let m : t + 2 ≤ 25 = omega arith in
-    let h : (t + 1) * (t + 2) ≤ 24 * 25 = mul-le-mul l m in
-    omega (arith, h)
 
 pub loop-t-preserved : goal.loop-t-preserved
 unfolding rotl

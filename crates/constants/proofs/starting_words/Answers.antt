@@ -1,6 +1,6 @@
 -- `constants::starting_words` meets its contract. The loop's invariant: the columns before x are done.
 -- Assumes nothing.
-use mathlib.Core.Path.{refl, sym, ap, ◌∙◌}
+use mathlib.Core.Path.{sym, ap, ◌∙◌}
 use mathlib.Core.List.{[], ◌∷◌}
 use Prim.Native.Nat.{ℕ, ◌+◌, ◌*◌}
 use native.Mathlib.Nat.{add-zero}
@@ -32,6 +32,3 @@ unfolding number starting_words
 returns c =
     filled-all 4 (column c.keccak_f-a.result) _ _ _ c.loop-x-test.false c.loop-x.invariant
     ∙ ap words_from_lanes c.keccak_f-a.ensures
-
-pub loop-x-init : goal.loop-x-init
-loop-x-init c = (search rules, refl, refl)

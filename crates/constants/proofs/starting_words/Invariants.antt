@@ -1,7 +1,7 @@
 -- `constants::starting_words` meets its contract. The loop's invariant: the columns before x are done.
 -- Assumes nothing.
 use mathlib.Core.List.{List}
-use Prim.Native.Nat.{ℕ, ◌+◌, ◌-◌, ◌*◌}
+use Prim.Native.Nat.{ℕ, ◌+◌, ◌*◌}
 use Rattle.permutation.specs.State.{tabulate}
 use Rattle.constants.specs.Keccak.{StateArray}
 use Rattle.constants.specs.Tables.{lane}
@@ -13,6 +13,3 @@ column a x = tabulate 5 (λ y. lane a (5 * (x + 1) + y))
 
 abbrev pub invariant-loop-x : goal.invariant-loop-x
 invariant-loop-x l = Filled 4 (column l.a) l.initial.s l.x l.s
-
-abbrev pub decreases-loop-x : goal.decreases-loop-x
-decreases-loop-x l = 4 - l.x

@@ -1,6 +1,6 @@
 -- `constants::theta` meets its contract. The loop's invariant: the sheets before x are done.
 -- Assumes nothing.
-use mathlib.Core.Path.{refl, ap, ap₂, ◌∙◌}
+use mathlib.Core.Path.{ap, ap₂, ◌∙◌}
 use mathlib.Core.List.{[]}
 use Prim.Native.Nat.{ℕ}
 use lib.ListN.{get_or}
@@ -26,6 +26,3 @@ pub returns : goal.returns
 returns c =
     let a : StateArray = c.args.a in
     filled-all 5 (theta-sheet a) _ _ _ c.loop-x-test.false c.loop-x.invariant ∙ theta-agrees a (words a _ c.well_formed.0)
-
-pub loop-x-init : goal.loop-x-init
-loop-x-init c = (search rules, search rules, refl)

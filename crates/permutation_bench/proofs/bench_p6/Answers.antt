@@ -1,11 +1,11 @@
 -- `permutation_bench::bench_p6` meets its contract. The loop's invariant: after i turns the state is P6 of the seeded state, i times over.
 -- Assumes nothing.
-use mathlib.Core.Path.{◌≡◌, sym, ap, ◌∙◌}
+use mathlib.Core.Path.{sym, ap, ◌∙◌}
 use Prim.Native.Nat.{ℕ}
 use native.Mathlib.Omega.{arith}
 use native.Mathlib.Numerals.{add-one}
 use borrow.Author.Rules.{rules}
-use Rattle.permutation.specs.State.{State, at}
+use Rattle.permutation.specs.State.{State}
 use Rattle.permutation.specs.Permutation.{start, add_constant, P}
 use Rattle.permutation_bench.specs.Repeated.{repeated}
 use Rattle.permutation_bench.proofs.bench_p6.Goals as goal
@@ -20,9 +20,3 @@ loop-i-preserved c =
     let n = c.loop-i.i in
     let s = add_constant start c.args.seed in
     (omega arith, c.p-t.ensures ∙ ap (P 6) c.loop-i.invariant.1 ∙ ap (λ (k : ℕ). repeated 6 k s) (sym (add-one n)))
-
-pub returns : goal.returns
-returns c =
-    let s = add_constant start c.args.seed in
-    let e : c.loop-i.i ≡ c.args.times = omega arith in
-    ap (λ (t : State). at t 0 0) c.loop-i.invariant.1 ∙ ap (λ (k : ℕ). at (repeated 6 k s) 0 0) e

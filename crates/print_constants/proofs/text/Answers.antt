@@ -1,4 +1,4 @@
-use Rattle.std.proofs.Common.{ℕ, List, refl, rules, ap, ap₂, ◌∙◌}
+use Rattle.std.proofs.Common.{ℕ, List, rules, ap, ap₂, ◌∙◌}
 use Rattle.permutation.specs.State.{State, tabulate}
 use Rattle.constants.specs.Tables.{round_constants}
 use Rattle.constants.proofs.Lists.{filled_next, filled-all}
@@ -7,9 +7,6 @@ use Rattle.print_constants.proofs.text.Goals as goal
 
 abbrev line_of : State → List ℕ → ℕ → List ℕ
 line_of s c k = hex_line (number_on s c k)
-
-pub loop-k-init : goal.loop-k-init
-loop-k-init c = (search rules, refl, refl)
 
 pub loop-k-preserved : goal.loop-k-preserved
 loop-k-preserved c =
