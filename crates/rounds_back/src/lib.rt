@@ -1,15 +1,15 @@
 // Rounds of the core undone (02, N10), so that it can be driven to a chosen state. For a reader who has the rounds of `permutation` beside it: the inverse of each
-// step, in the paper's order, then of the round and of the rounds, and the two calls.
+// step, in the paper's order, then of the round and of the rounds, and the call.
 #![tactic(auto)]
 
 ghost use Rattle.std.specs.Prelude.{◌≡◌, ◌≤◌, ◌<◌};
 ghost use Rattle.permutation.specs.Permutation.{constants, max_rounds, P};
 ghost use Rattle.rounds_back.specs.Inverse.{μ⁻¹, ρ⁻¹, π⁻¹, ψ⁻¹, R⁻¹, P⁻¹};
-ghost use Rattle.rounds_back.specs.Driven.{ran, not_driven, driven_to, driven};
-ghost use Rattle.rounds_back.specs.declared.Direction.TheVariants.{Back, Forward};
+ghost use Rattle.rounds_back.specs.Driven.{ran, driven, answered};
 ghost use Rattle.rounds_back.specs.Words.{times4_words, times12_words, times14_words, times20_words, times21_words, sbox⁻¹Words};
 
 use permutation::MAX_ROUNDS;
+use refusals::Refusal;
 use state_bytes::STATE_BYTES;
 
 type State = [[u64; 5]; 4];
@@ -178,9 +178,7 @@ fn back(s: State, n: usize) -> State
 {
     let constant = permutation::constant_table();
     let mut t = s;
-    let mut i = n;
-    while i > 0 {
-        i -= 1;
+    for i in (0..n).rev() {
         let before = round_back(t, &constant, i);
         t = before;
     }
@@ -198,7 +196,7 @@ fn forward(s: State, n: usize) -> State
 }
 
 // Which way rounds are run.
-#[derive(Clone, Copy)]
+#[derive(Clone, Copy, Debug, PartialEq, Eq)]
 pub enum Direction {
     Back,
     Forward,
@@ -215,57 +213,16 @@ fn run(s: State, direction: Direction, n: usize) -> State
     }
 }
 
-// The answer of the two calls: the refusal number, or 0, and the state as its bytes in word order.
-#[derive(Clone, Copy)]
-pub struct Driven {
-    pub refusal: u32,
-    pub state: [u8; STATE_BYTES],
-}
-
-// The refusal number of more than twelve rounds.
-pub const TOO_MANY_ROUNDS: u32 = 20;
-
-fn refused() -> Driven
-    ensures { result ≡ not_driven }
-{
-    Driven {
-        refusal: TOO_MANY_ROUNDS,
-        state: [0; STATE_BYTES],
-    }
-}
-
-fn reached(t: State) -> Driven
-    ensures { result ≡ driven_to t }
-{
-    let mut b = [0; STATE_BYTES];
-    state_bytes::store_state(&t, &mut b);
-    Driven {
-        refusal: 0,
-        state: b,
-    }
-}
-
-// Both calls. Internal: only crates of ours call it.
-pub fn drive(s: State, direction: Direction, r: u32) -> Driven
-    ensures { result ≡ driven direction s r }
+// Back: the one state from which r rounds, constants from 0, reach s (02, N10). Forward: the state that they reach from s, within the same limits. Given as its
+// bytes in word order.
+pub fn drive(s: State, direction: Direction, r: u32) -> Result<[u8; STATE_BYTES], Refusal>
+    ensures { answered result ≡ driven direction s r }
 {
     if r as usize > MAX_ROUNDS {
-        return refused();
+        return Err(Refusal::TooManyRounds);
     }
     let t = run(s, direction, r as usize);
-    reached(t)
-}
-
-// The one state from which r rounds, constants from 0, reach s (02, N10).
-pub fn rounds_back(s: State, r: u32) -> Driven
-    ensures { result ≡ driven Back s r }
-{
-    drive(s, Direction::Back, r)
-}
-
-// The state that r rounds, constants from 0, reach from s, within the same limits.
-pub fn rounds_forward(s: State, r: u32) -> Driven
-    ensures { result ≡ driven Forward s r }
-{
-    drive(s, Direction::Forward, r)
+    let mut reached = [0; STATE_BYTES];
+    state_bytes::store_state(&t, &mut reached);
+    Ok(reached)
 }
