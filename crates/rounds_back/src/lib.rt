@@ -163,16 +163,6 @@ fn back(s: State, n: usize) -> State
     t
 }
 
-// The first n rounds.
-fn forward(s: State, n: usize) -> State
-    requires { n ≤ max_rounds }
-    ensures { result ≡ P n s }
-{
-    let mut t = s;
-    permutation::rounds(&mut t, n);
-    t
-}
-
 // Which way rounds are run.
 #[derive(Clone, Copy, Debug, PartialEq, Eq)]
 pub enum Direction {
@@ -187,7 +177,11 @@ fn run(s: State, direction: Direction, n: usize) -> State
 {
     match direction {
         Direction::Back => back(s, n),
-        Direction::Forward => forward(s, n),
+        Direction::Forward => {
+            let mut t = s;
+            permutation::rounds(&mut t, n);
+            t
+        }
     }
 }
 

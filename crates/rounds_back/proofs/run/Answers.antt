@@ -9,4 +9,4 @@ pub returns-in-Back : goal.returns-in-Back
 returns-in-Back c = let a = c.args in c.back.ensures ∙ ap (λ (w : Direction). ran w a.n a.s) (sym c.in-Back.is)
 
 pub returns-in-Forward : goal.returns-in-Forward
-returns-in-Forward c = let a = c.args in c.forward.ensures ∙ ap (λ (w : Direction). ran w a.n a.s) (sym c.in-Forward.is)
+returns-in-Forward c = let a = c.args in c.rounds.ensures ∙ ap (λ (w : Direction). ran w a.n a.s) (sym c.in-Forward.is)
