@@ -2,7 +2,7 @@
 -- Assumes nothing.
 use mathlib.Core.Bool.{Bool, true, false, cond, ◌&&◌}
 use mathlib.Core.List.{List, [], ◌∷◌}
-use mathlib.Core.Path.{◌≡◌, refl, sym, ap, ◌∙◌, subst}
+use mathlib.Core.Path.{◌≡◌, refl, sym, ap, ap₂, ◌∙◌, subst}
 use Prim.Native.Nat.{ℕ, suc, ◌+◌, ◌-◌, ◌^◌, ◌≤◌, ◌<◌}
 use native.Mathlib.Omega.{arith}
 use lib.ListN.{get_or}
@@ -70,19 +70,19 @@ module _ (r : List ℕ) where
     abbrev pub upper_words : ℕ → ℕ → Column
     upper_words m k = tabulate 5 (λ y. word (λ z. upper m k (slice s z) y))
 
+    abbrev pub digit_words : ℕ → ℕ → Column
+    digit_words k j = digit_times_words (get_or r j 0) k (get_or s j [])
+
     abbrev pub digits_words : ℕ → Column
-    digits_words k =
-        let d : ℕ → Column = λ j. digit_times_words (get_or r j 0) k (get_or s j []) in
-        sum_words (d 0) (d 1) (d 2) (d 3)
+    digits_words k = sum_words (digit_words k 0) (digit_words k 1) (digit_words k 2) (digit_words k 3)
 
     upper-held : (m k z : ℕ) → z < 64 → tabulate 5 (held (upper_words m k) z) ≡ tabulate 5 (upper m k (slice s z))
     upper-held m k z l i = tabulate 5 (λ y. bit-number 64 (λ z. upper m k (slice s z) y) z l i)
 
     digits-held : (k z : ℕ) → tabulate 5 (held (digits_words k) z) ≡ tabulate 5 (digits k (slice s z))
     digits-held k z =
-        let d : ℕ → Column = λ j. digit_times_words (get_or r j 0) k (get_or s j []) in
-        let e : (j : ℕ) → tabulate 5 (held (d j) z) ≡ tabulate 5 (λ y. element (get_or r j 0) k && slice s z j y) = λ j. digit-held (get_or r j 0) k (get_or s j []) z in
-        sum-held (d 0) (d 1) (d 2) (d 3) z ∙ (λ i. tabulate 5 (four (λ j y. get_or (e j i) y false)))
+        sum-held (digit_words k 0) (digit_words k 1) (digit_words k 2) (digit_words k 3) z
+        ∙ (λ i. tabulate 5 (four (λ j y. get_or (digit-held (get_or r j 0) k (get_or s j []) z i) y false)))
 
     -- ---- one coefficient more
     with-next : (m k : ℕ) → let u = times_a_plus_words (upper_words m (suc k)) (digits_words k) in ((y : ℕ) → get_or u y 0 < 2 ^ 64) → u ≡ upper_words (suc m) k
@@ -94,12 +94,13 @@ module _ (r : List ℕ) where
         ∙ (λ i. tabulate 5 (plus (times_a (λ y. get_or (upper-held m (suc k) z l i) y false)) (λ y. get_or (digits-held k z i) y false)))
         ∙ upper-more m k (slice s z))
 
-    -- the code's t and u, before and after it takes the digits at a^(k - 1)
-    pub turn : (k : ℕ) → 0 < k → k ≤ 5 → (t u : Column) → t ≡ upper_words (5 - k) k → u ≡ times_a_plus_words t (digits_words (k - 1))
-        → ((y : ℕ) → get_or u y 0 < 2 ^ 64) → u ≡ upper_words (5 - (k - 1)) (k - 1)
-    turn k h l t u et eu below =
+    -- by the code's own columns: t and u, before and after it takes the digits at a^(k - 1), which are d₀ to d₃, with their sum q
+    pub turn : (k : ℕ) → 0 < k → k ≤ 5 → {t d₀ d₁ d₂ d₃ q u : Column} → t ≡ upper_words (5 - k) k
+        → d₀ ≡ digit_words (k - 1) 0 → d₁ ≡ digit_words (k - 1) 1 → d₂ ≡ digit_words (k - 1) 2 → d₃ ≡ digit_words (k - 1) 3 → q ≡ sum_words d₀ d₁ d₂ d₃
+        → u ≡ times_a_plus_words t q → ((y : ℕ) → get_or u y 0 < 2 ^ 64) → u ≡ upper_words (5 - (k - 1)) (k - 1)
+    turn k h l {t} {d₀} {d₁} {d₂} {d₃} {q} {u} et e₀ e₁ e₂ e₃ eq eu below =
         let this : k ≡ suc (k - 1) = omega arith in
         let done : suc (5 - k) ≡ 5 - (k - 1) = omega arith in
         let e : u ≡ times_a_plus_words (upper_words (5 - k) (suc (k - 1))) (digits_words (k - 1)) =
-        eu ∙ ap (λ (c : Column). times_a_plus_words c (digits_words (k - 1))) (et ∙ ap (upper_words (5 - k)) this) in
+        eu ∙ ap₂ times_a_plus_words (et ∙ ap (upper_words (5 - k)) this) (eq ∙ (λ i. sum_words (e₀ i) (e₁ i) (e₂ i) (e₃ i))) in
         e ∙ with-next (5 - k) (k - 1) (subst (λ (c : Column). (y : ℕ) → get_or c y 0 < 2 ^ 64) e below) ∙ ap (λ (m : ℕ). upper_words m (k - 1)) done

@@ -171,16 +171,15 @@ pub enum Direction {
 }
 
 // The first n rounds, one way or the other.
-fn run(s: State, direction: Direction, n: usize) -> State
+fn run(mut s: State, direction: Direction, n: usize) -> State
     requires { n ≤ max_rounds }
     ensures { result ≡ ran direction n s }
 {
     match direction {
         Direction::Back => back(s, n),
         Direction::Forward => {
-            let mut t = s;
-            permutation::rounds(&mut t, n);
-            t
+            permutation::rounds(&mut s, n);
+            s
         }
     }
 }

@@ -7,8 +7,6 @@ use native.Mathlib.Omega.{arith}
 use mir.Syntax.{w64}
 use borrow.Author.Rules.{elem_Fits}
 use Rattle.bits.specs.Bits.{number}
-use Rattle.permutation.specs.Words.{sum_words}
-use Rattle.rounds_back.specs.Words.{times_a_plus_words}
 use Rattle.rounds_back.proofs.Horner.{turn, upper_words}
 use Rattle.rounds_back.proofs.row.Goals as goal
 
@@ -19,10 +17,10 @@ loop-k-init g c = refl
 pub loop-k-preserved : goal.loop-k-preserved
 loop-k-preserved g c =
     let u = c.times_a_plus-u in
-    let q = c.sum-q.ensures
-    ∙ (λ i. sum_words (c.digit_times.ensures i) (c.digit_times-in-loop-k.ensures i) (c.digit_times-in-loop-k-2.ensures i) (c.digit_times-in-loop-k-3.ensures i)) in
-    turn (g.row.N0 ∷ g.row.N1 ∷ g.row.N2 ∷ g.row.N3 ∷ []) c.args.s c.loop-k.k (omega arith) (omega arith) c.loop-k.t u.result c.loop-k.invariant
-    (u.ensures ∙ ap (times_a_plus_words c.loop-k.t) q)
+    turn (g.row.N0 ∷ g.row.N1 ∷ g.row.N2 ∷ g.row.N3 ∷ []) c.args.s c.loop-k.k (omega arith) (omega arith)
+    c.loop-k.invariant
+    c.digit_times.ensures c.digit_times-in-loop-k.ensures c.digit_times-in-loop-k-2.ensures c.digit_times-in-loop-k-3.ensures c.sum-q.ensures
+    u.ensures
     (λ y. (elem_Fits w64 w64 u.result u.type_inv.0 y u.type_inv.1.1 tt).fits)
 
 pub returns : goal.returns
