@@ -20,12 +20,6 @@ compared c d e =
     c.state_at-before.ensures c.round_at-expected.ensures c.state_at-after.ensures d (sym e ∙ c.ne.ensures)
     ∙ c.loop-i.invariant.1
 
-pub loop-i-init : goal.loop-i-init
-loop-i-init c =
-    let a = c.args in
-    let e : a.r - 0 ≡ a.r = omega arith in
-    (omega arith, ap (judged a.log.now 0) e)
-
 pub loop-i-preserved : goal.loop-i-preserved
 loop-i-preserved c = (omega arith, compared (goal.at.loop-i-preserved c).After-ne false c.if-ne.false)
 
@@ -40,5 +34,3 @@ returns c =
     let z : a.r - c.loop-i.i ≡ 0 = omega arith in
     sym (ap₂ (judged a.log.now) e z) ∙ c.loop-i.invariant.1
 
-pub round_at-expected-requires : goal.round_at-expected-requires
-round_at-expected-requires c = (omega arith, search rules)

@@ -6,9 +6,6 @@ use native.Mathlib.Omega.{arith}
 use Rattle.rounds_back.specs.Inverse.{P⁻¹}
 use Rattle.rounds_back.proofs.back.Goals as goal
 
-pub loop-i-init : goal.loop-i-init
-loop-i-init c = refl
-
 pub loop-i-preserved : goal.loop-i-preserved
 unfolding P⁻¹
 loop-i-preserved c =
