@@ -10,7 +10,7 @@ use Rattle.bytes_le.specs.Bytes.{Bytes}
 use Rattle.permutation.specs.State.{State}
 use Rattle.permutation.specs.Permutation.{R}
 use Rattle.round_log.proofs.Same.{states-same}
-use Rattle.round_log.specs.RoundLog.{state_at, same_state, round_agrees, judged, Verdict, Differs}
+use Rattle.round_log.specs.RoundLog.{state_at, same_state, round_agrees, judged, Differs}
 
 module _ (log : Bytes) (r i : ℕ) (h : i < r) where
   turn : judged log i (r - i) ≡ cond (round_agrees log i) (judged log (i + 1) (r - (i + 1))) (Differs i)

@@ -10,7 +10,6 @@ use Rattle.refusals.proofs.Laws.{positive}
 use Rattle.permutation.specs.Permutation.{max_rounds}
 use Rattle.bytes_le.specs.Bytes.{put_bytes}
 use Rattle.state_bytes.specs.StateBytes.{bytes_of, state_length}
-use Rattle.state_bytes.proofs.Lengths.{length-bytes}
 use Rattle.rounds_back.specs.Driven.{Driven, ran}
 use Rattle.rounds_back.proofs.Answers.{driven-within}
 use Rattle.core_c.specs.Calls.{rounds_refusal}
@@ -46,12 +45,6 @@ reached : (c : In_ok-reached) → c.args.rounds ≤ max_rounds → let a = c.arg
     c.in_ok-reached.reached ≡ bytes_of (ran a.direction a.rounds c.state_in-s.result)
 reached c h = ap (λ (d : Driven). d.state) (c.in_ok-reached.ensures ∙ driven-within c.args.direction c.state_in-s.result c.args.rounds h)
 
-pub put_bytes-requires : goal.put_bytes-requires
-put_bytes-requires c =
-    let h = room (goal.at.put_bytes-requires c).In_ok-rounds_refusal in
-    let e = ap length (reached (goal.at.put_bytes-requires c).In_ok-reached h.0) ∙ length-bytes _ in
-    omega (arith, e, h.1)
-
 pub returns : goal.returns
 returns c =
     let a = c.args in
@@ -61,6 +54,3 @@ returns c =
       done-leaves a.direction a.rounds a.state.now e c.state_in-s.result _ _ c.state_in-s.ensures refl
           (c.put_bytes.ensures.1 ∙ ap (put_bytes a.state.now 0) (reached (goal.at.returns c).In_ok-reached (room o).0)),
     )
-
-pub state_in-s-requires : goal.state_in-s-requires
-state_in-s-requires c = (room (goal.at.state_in-s-requires c).In_ok-rounds_refusal).1

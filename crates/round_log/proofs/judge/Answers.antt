@@ -1,10 +1,9 @@
 -- `round_log::judge` meets its contract. The loop's invariant: the verdict on the rounds from i on is the verdict on all.
 -- Assumes nothing.
-use mathlib.Core.Path.{◌≡◌, sym, ap, ap₂, ◌∙◌}
+use mathlib.Core.Path.{◌≡◌, sym, ap₂, ◌∙◌}
 use mathlib.Core.Bool.{Bool, true, false, cond}
 use Prim.Native.Nat.{◌+◌, ◌-◌}
 use native.Mathlib.Omega.{arith}
-use borrow.Author.Rules.{rules}
 use Rattle.round_log.specs.RoundLog.{judged, Differs}
 use Rattle.round_log.proofs.Judging.{judged-by}
 use Rattle.round_log.proofs.judge.Goals as goal
@@ -33,4 +32,3 @@ returns c =
     let e : c.loop-i.i ≡ a.r = omega arith in
     let z : a.r - c.loop-i.i ≡ 0 = omega arith in
     sym (ap₂ (judged a.log.now) e z) ∙ c.loop-i.invariant.1
-

@@ -1,6 +1,6 @@
 -- `rounds_back::back` meets its contract. The loop's invariant: what undoing the first i rounds of the state makes is what undoing all was to make.
 -- Assumes nothing.
-use mathlib.Core.Path.{◌≡◌, refl, sym, ap, ◌∙◌}
+use mathlib.Core.Path.{◌≡◌, sym, ap, ◌∙◌}
 use Prim.Native.Nat.{ℕ, suc, ◌-◌}
 use native.Mathlib.Omega.{arith}
 use Rattle.rounds_back.specs.Inverse.{P⁻¹}
