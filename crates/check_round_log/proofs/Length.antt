@@ -7,8 +7,7 @@ use lib.ListN.{length, length-append}
 use Rattle.bytes_le.specs.Bytes.{Bytes}
 use Rattle.plain_text.specs.Text.{ascii, field}
 use Rattle.plain_text.proofs.Puts.{field-length}
-use Rattle.round_log.specs.declared.Verdict.{Verdict}
-use Rattle.round_log.specs.declared.Verdict.TheVariants.{Agrees, Differs, Refused}
+use Rattle.round_log.specs.RoundLog.{Verdict, Agrees, Differs, Refused}
 use Rattle.check_round_log.specs.Line.{line, line_room}
 
 words : (word rest : Bytes) (n : ℕ) → length word + (20 + length rest) ≤ line_room → length (field word n ++ rest) ≤ line_room

@@ -3,8 +3,7 @@
 use Rattle.std.specs.Prelude.{◌++◌, ℕ}
 use Rattle.bytes_le.specs.Bytes.{Bytes}
 use Rattle.plain_text.specs.Text.{ascii, field}
-use Rattle.round_log.specs.declared.Verdict.{Verdict}
-use Rattle.round_log.specs.declared.Verdict.TheVariants.{Agrees, Differs, Refused}
+use Rattle.round_log.specs.RoundLog.{Verdict, Agrees, Differs, Refused}
 
 abbrev pub line : Verdict → Bytes
 line (Agrees r) = field (ascii "agrees, ") r ++ ascii " rounds\n"

@@ -4,10 +4,12 @@
 ghost use Rattle.std.specs.Prelude.{◌≡◌, ◌++◌, ◌+◌, ◌≤◌, length};
 ghost use Rattle.bytes_le.specs.Bytes.{put_bytes};
 ghost use Rattle.plain_text.specs.Text.{max_digits, field};
+ghost use Rattle.round_log.specs.Findings.{answered};
 ghost use Rattle.check_round_log.specs.Line.{line, line_room};
 
 use permutation::MAX_ROUNDS;
-use round_log::Verdict;
+use refusals::Refusal;
+use round_log::Finding;
 use state_bytes::STATE_BYTES;
 use std::io;
 
@@ -27,15 +29,15 @@ fn put_words(out: &mut [u8], word: &[u8], n: u32, rest: &[u8]) -> usize
     bytes_le::put_bytes(out, i, rest)
 }
 
-// Puts the line of a verdict at the front of out; returns its length.
-fn put_line(out: &mut [u8], v: Verdict) -> usize
+// Puts the line of what was answered of a log at the front of out; returns its length.
+fn put_line(out: &mut [u8], answer: Result<Finding, Refusal>) -> usize
     requires { line_room ≤ length out.old }
-    ensures { (result ≡ length (line v)) × (out.new ≡ put_bytes out.old 0 (line v)) }
+    ensures { (result ≡ length (line (answered answer))) × (out.new ≡ put_bytes out.old 0 (line (answered answer))) }
 {
-    match v {
-        Verdict::Agrees(r) => put_words(out, b"agrees, ", r, b" rounds\n"),
-        Verdict::Differs(i) => put_words(out, b"round ", i, b" differs\n"),
-        Verdict::Refused(n) => put_words(out, b"refused ", n, b"\n"),
+    match answer {
+        Ok(Finding::AllAgree(r)) => put_words(out, b"agrees, ", r, b" rounds\n"),
+        Ok(Finding::FirstDiffers(i)) => put_words(out, b"round ", i, b" differs\n"),
+        Err(refusal) => put_words(out, b"refused ", refusal.number(), b"\n"),
     }
 }
 
@@ -43,8 +45,8 @@ fn main(rt: HostRuntime) -> io::Result<()> {
     // One byte more than the longest log has, to see that an input is longer.
     let mut log = [0u8; LONGEST + 1];
     let n = input::read_full(&mut rt.reader(), &mut log)?;
-    let v = round_log::check_log(&log[..n]);
+    let answer = round_log::check_log(&log[..n]);
     let mut text = [0u8; LINE_ROOM];
-    let count = put_line(&mut text, v);
+    let count = put_line(&mut text, answer);
     rt.write_all(&text[..count])
 }

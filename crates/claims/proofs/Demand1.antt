@@ -41,15 +41,13 @@ use Rattle.listing.proofs.Lines.{listing-length}
 use Rattle.burst_c.specs.Calls.{check_info_length, fetch_info_length, check_call_refusal, check_call_info, fetch_call_refusal, fetch_call_output, fetch_call_info}
 use Rattle.permutation.specs.State.{State}
 use Rattle.rounds_back.proofs.Answers.{driven-above, driven-within}
-use Rattle.rounds_back.specs.declared.Driven.{Driven}
+use Rattle.rounds_back.specs.Driven.{Driven}
 use Rattle.rounds_back.specs.declared.Direction.{Direction}
 use Rattle.core_c.specs.Calls.{call_refusal, call_agrees, call_round}
 use Rattle.core_c.proofs.Rounds.{refused-leaves}
 use Rattle.sizing.specs.Sizing.{sized_edition, too_long, size_number, size_answer}
 use Rattle.sizing.proofs.Numbers.{long-found, long-none}
-use Rattle.round_log.specs.RoundLog.{verdict as log_verdict}
-use Rattle.round_log.specs.declared.Verdict.{Verdict}
-use Rattle.round_log.specs.declared.Verdict.TheVariants.{Agrees, Differs, Refused}
+use Rattle.round_log.specs.RoundLog.{Verdict, Agrees, Differs, Refused, verdict as log_verdict}
 use Rattle.round_log.proofs.Verdicts.{Says, says}
 use Rattle.claims.specs.RoundLogs.{LogOf}
 use Rattle.claims.specs.Demand1.{Refusal, ◌on◌, FirstOf, SealNumber, Seal, order_of_open, order_of_verify, OpenNumber, NoRoomToOpen, Verify, Open, OpenCall}

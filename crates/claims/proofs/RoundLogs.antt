@@ -1,6 +1,6 @@
 -- N9: what the verdict on a log says, from the laws of `round_log`.
 -- Assumes nothing.
-use Rattle.round_log.specs.declared.Verdict.TheVariants.{Agrees, Differs, Refused}
+use Rattle.round_log.specs.RoundLog.{Agrees, Differs, Refused}
 use Rattle.round_log.proofs.Verdicts.{verdict-says}
 use Rattle.round_log.proofs.Runs.{from_start, of-runs, word-order}
 use Rattle.claims.specs.RoundLogs.{RoundLogs}

@@ -14,8 +14,7 @@ use Rattle.state_bytes.specs.StateBytes.{bytes_of, state_of}
 use Rattle.state_bytes.proofs.View.{shaped-state, state-held, state-shaped}
 use Rattle.rounds_back.specs.Inverse.{P⁻¹}
 use Rattle.rounds_back.specs.Inverses.{Inverses}
-use Rattle.rounds_back.specs.Driven.{driven}
-use Rattle.rounds_back.specs.declared.Driven.{Driven}
+use Rattle.rounds_back.specs.Driven.{Driven, driven}
 use Rattle.rounds_back.specs.declared.Direction.{Direction}
 use Rattle.rounds_back.specs.declared.Direction.TheVariants.{Back, Forward}
 use Rattle.rounds_back.proofs.Answers.{driven-above, driven-within}

@@ -390,13 +390,14 @@ module _ (f out : Bytes) where
     -- what the C call returns
     pub returned : list_refusal f out ≡ printing.refusal
 
--- ---- round logs (02, N9): 19. `check_log` answers the verdict itself; these are the three numbers of the C call
+-- ---- round logs (02, N9): 19. `check_log` answers the refusal or what the rounds come to; these are the three numbers of the C call
 module _ (log : Bytes) where
   pub record CheckLog : Type 0 where
     pub order : FirstOf (call_refusal (verdict log)) ((19 on ((r : ℕ) → LogOf r log → ⊥)) ∷ [])
     pub refused : call_refusal (verdict log) ≢ 0 → (call_agrees (verdict log) ≡ 0) × (call_round (verdict log) ≡ 0)
 
--- ---- rounds (02, N10): 20. The Rattle calls answer a state, all zeros where they refuse; the C calls change a slice in place, of n bytes: 20, then 5
+-- ---- rounds (02, N10): 20. The Rattle call answers the refusal or a state, and what a refusal stands for has all zeros; the C calls change a slice in place, of n
+-- bytes: 20, then 5
 abbrev pub order_of_rounds : (r n : ℕ) → List Refusal
 order_of_rounds r n = (20 on (12 < r)) ∷ (5 on (n < 160)) ∷ []
 

@@ -1,16 +1,15 @@
 -- Change request N9 (02): "The new core logs its state before each run and after every round. The log is 160 bytes a state, in word order. A checker takes a log of
 -- 1 + r states, r from 1 to 12, and accepts exactly when each state is one round from the one before, constants from 0. Otherwise it names the first round that
 -- differs, counted from 0. Logs by any program are judged alike. It refuses any other log length with 19, before looking at a state."
--- The checker is `round_log::check_log`, whose contract is that it answers `verdict log`, for every log; the C call answers by the same verdict
--- (`crates/core_c/specs/Calls.antt`).
+-- The checker is `round_log::check_log`, whose contract is that it answers `verdict log`, as `answered` reads its Result (`crates/round_log/specs/Findings.antt`), for
+-- every log; the C call answers by the same verdict (`crates/core_c/specs/Calls.antt`).
 -- Assumes nothing.
 use Rattle.std.specs.Prelude.{◌↔◌, ◌≡◌, ℕ, suc, ◌+◌, ◌*◌, ◌≤◌, ◌<◌, length}
 use Rattle.bytes_le.specs.Bytes.{Bytes, AllBytes, le_at}
 use Rattle.permutation.specs.State.{State, IsState}
 use Rattle.permutation.specs.Permutation.{R, P}
 use Rattle.state_bytes.specs.StateBytes.{word_of}
-use Rattle.round_log.specs.RoundLog.{state_at, log_of_run, verdict}
-use Rattle.round_log.specs.declared.Verdict.TheVariants.{Agrees, Differs, Refused}
+use Rattle.round_log.specs.RoundLog.{Agrees, Differs, Refused, state_at, log_of_run, verdict}
 
 -- a log of 1 + r states, 160 bytes each, r from 1 to 12
 abbrev pub LogOf : ℕ → Bytes → Type 0

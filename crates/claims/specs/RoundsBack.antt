@@ -1,8 +1,8 @@
 -- Change request N10 (02): "To test rare bit patterns the bench wants an input that leads to a given state. From a wanted state and r from 0 to 12, give the state from
 -- which r rounds, constants from 0, reach it. There is always just one, which is to be shown, by undoing each of the five steps. Rounds forward after rounds back, and
 -- the reverse, are the identity. It refuses r above 12 with 20."
--- The calls are `rounds_back::rounds_back` and `rounds_forward`, whose contracts are that they answer `driven Back s r` and `driven Forward s r` for every state s and
--- every r; and the C calls, which do the same to the first 160 bytes of a slice (`after_rounds`, `rounds_refusal`). The steps undone are defined in
+-- The call is `rounds_back::drive`, whose contract is that it answers `driven d s r`, as `answered` reads its Result, for both directions d, every state s and every r;
+-- and the C calls, one for each direction, which do the same to the first 160 bytes of a slice (`after_rounds`, `rounds_refusal`). The steps undone are defined in
 -- `crates/rounds_back/specs/Inverse.antt`, and Inverses in `Inverses.antt` beside it; IsState in `crates/permutation/specs/State.antt`.
 -- Assumes nothing.
 use Rattle.std.specs.Prelude.{Bool, cond, List, ◌++◌, ◌↔◌, ◌≡◌, ℕ, ◌≤◌, ◌<◌, eqb, length, take, drop}

@@ -4,8 +4,7 @@ use Rattle.std.specs.Prelude.{cond, ℕ, eqb, ltb, length, take}
 use Rattle.bytes_le.specs.Bytes.{Bytes, put_bytes}
 use Rattle.permutation.specs.Permutation.{max_rounds}
 use Rattle.state_bytes.specs.StateBytes.{state_length, bytes_of, state_of}
-use Rattle.round_log.specs.declared.Verdict.{Verdict}
-use Rattle.round_log.specs.declared.Verdict.TheVariants.{Agrees, Differs, Refused}
+use Rattle.round_log.specs.RoundLog.{Verdict, Agrees, Differs, Refused}
 use Rattle.rounds_back.specs.Driven.{ran, too_many_rounds}
 use Rattle.rounds_back.specs.declared.Direction.{Direction}
 

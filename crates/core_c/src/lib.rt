@@ -2,13 +2,14 @@
 #![tactic(auto)]
 
 ghost use Rattle.std.specs.Prelude.{◌≡◌, length};
+ghost use Rattle.refusals.specs.Numbers.{number_of};
 ghost use Rattle.round_log.specs.RoundLog.{verdict};
-ghost use Rattle.rounds_back.specs.declared.Direction.TheVariants.{Back, Forward};
 ghost use Rattle.core_c.specs.Calls.{call_refusal, call_agrees, call_round, rounds_refusal, after_rounds};
 
 use permutation::MAX_ROUNDS;
-use round_log::Verdict;
-use rounds_back::{Direction, TOO_MANY_ROUNDS};
+use refusals::Refusal;
+use round_log::Finding;
+use rounds_back::Direction;
 use state_bytes::STATE_BYTES;
 
 pub fn icepole_check_log(log: &[u8], agrees: &mut u32, round: &mut u32) -> u32
@@ -16,67 +17,36 @@ pub fn icepole_check_log(log: &[u8], agrees: &mut u32, round: &mut u32) -> u32
         (agrees.new ≡ call_agrees (verdict log.now)) ×
         (round.new ≡ call_round (verdict log.now)) }
 {
-    let v = round_log::check_log(log);
-    match v {
-        Verdict::Agrees(r) => {
-            *agrees = 1;
-            *round = r;
-            0
-        }
-        Verdict::Differs(i) => {
-            *agrees = 0;
-            *round = i;
-            0
-        }
-        Verdict::Refused(n) => {
-            *agrees = 0;
-            *round = 0;
-            n
-        }
-    }
+    let answer = round_log::check_log(log);
+    (*agrees, *round) = match answer {
+        Ok(Finding::AllAgree(r)) => (1, r),
+        Ok(Finding::FirstDiffers(i)) => (0, i),
+        Err(_) => (0, 0),
+    };
+    refusals::number_of(&answer)
 }
 
-// The refusal number of a slice that has no room for a state.
-const STATE_TOO_SHORT: u32 = 5;
-
-// The refusal number of the two calls below, for a slice of n bytes.
-fn rounds_refusal(rounds: u32, n: usize) -> u32
-    ensures { result ≡ rounds_refusal rounds n }
+// Whether rounds can be run of a state at the front of a slice of n bytes.
+fn rounds_refusal(rounds: u32, n: usize) -> Result<(), Refusal>
+    ensures { number_of result ≡ rounds_refusal rounds n }
 {
     if rounds as usize > MAX_ROUNDS {
-        return TOO_MANY_ROUNDS;
+        return Err(Refusal::TooManyRounds);
     }
     if n < STATE_BYTES {
-        return STATE_TOO_SHORT;
+        return Err(Refusal::OutputTooShort);
     }
-    0
+    Ok(())
 }
 
 // Rounds of the state at the front of a slice, in place, one way or the other.
-fn run_rounds(state: &mut [u8], direction: Direction, rounds: u32) -> u32
-    ensures { (result ≡ rounds_refusal rounds (length state.old)) ×
+pub fn run_rounds(state: &mut [u8], direction: Direction, rounds: u32) -> Result<(), Refusal>
+    ensures { (number_of result ≡ rounds_refusal rounds (length state.old)) ×
         (state.new ≡ after_rounds direction rounds state.old) }
 {
-    let n = rounds_refusal(rounds, state.len());
-    if n != 0 {
-        return n;
-    }
+    rounds_refusal(rounds, state.len())?;
     let s = state_bytes::state_in(state, 0);
-    let d = rounds_back::drive(s, direction, rounds);
-    bytes_le::put_bytes(state, 0, &d.state);
-    0
-}
-
-pub fn icepole_rounds_back(state: &mut [u8], rounds: u32) -> u32
-    ensures { (result ≡ rounds_refusal rounds (length state.old)) ×
-        (state.new ≡ after_rounds Back rounds state.old) }
-{
-    run_rounds(state, Direction::Back, rounds)
-}
-
-pub fn icepole_rounds_forward(state: &mut [u8], rounds: u32) -> u32
-    ensures { (result ≡ rounds_refusal rounds (length state.old)) ×
-        (state.new ≡ after_rounds Forward rounds state.old) }
-{
-    run_rounds(state, Direction::Forward, rounds)
+    let reached = rounds_back::drive(s, direction, rounds)?;
+    bytes_le::put_bytes(state, 0, &reached);
+    Ok(())
 }

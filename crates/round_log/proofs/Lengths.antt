@@ -10,8 +10,7 @@ use borrow.Author.Tests.{eq-eqb, eqb-true, le-leb, leb-true}
 use Rattle.bits.proofs.Cases.{and-true}
 use Rattle.bytes_le.specs.Bytes.{Bytes}
 use Rattle.permutation.specs.Permutation.{max_rounds}
-use Rattle.round_log.specs.RoundLog.{log_length, rounds_in, is_log_length, judged, verdict}
-use Rattle.round_log.specs.declared.Verdict.TheVariants.{Refused}
+use Rattle.round_log.specs.RoundLog.{log_length, rounds_in, is_log_length, judged, verdict, Refused}
 
 -- n bytes are a log of r rounds
 abbrev pub LogOf : ℕ → ℕ → Type 0

@@ -17,8 +17,7 @@ use Rattle.permutation.proofs.Bounds.{round-state}
 use Rattle.state_bytes.specs.StateBytes.{bytes_of, state_of, word_of}
 use Rattle.state_bytes.proofs.Lengths.{length-bytes}
 use Rattle.state_bytes.proofs.View.{bytes-of-state, state-held, state-of-is, word-of-bytes}
-use Rattle.round_log.specs.RoundLog.{state_at, log_of_run, verdict}
-use Rattle.round_log.specs.declared.Verdict.TheVariants.{Agrees}
+use Rattle.round_log.specs.RoundLog.{state_at, log_of_run, verdict, Agrees}
 use Rattle.round_log.proofs.Lengths.{LogOf}
 use Rattle.round_log.proofs.Verdicts.{RightBelow, verdict-says}
 

@@ -13,9 +13,7 @@ use Rattle.bytes_le.specs.Bytes.{Bytes, same}
 use Rattle.bytes_le.proofs.Same.{same_self, same_true, cond-test}
 use Rattle.permutation.specs.State.{State}
 use Rattle.permutation.specs.Permutation.{R}
-use Rattle.round_log.specs.RoundLog.{state_at, same_state, round_agrees, is_log_length, rounds_in, judged, verdict}
-use Rattle.round_log.specs.declared.Verdict.{Verdict}
-use Rattle.round_log.specs.declared.Verdict.TheVariants.{Agrees, Differs, Refused}
+use Rattle.round_log.specs.RoundLog.{state_at, same_state, round_agrees, is_log_length, rounds_in, judged, verdict, Verdict, Agrees, Differs, Refused}
 use Rattle.round_log.proofs.Lengths.{LogOf, length-right, length-told, verdict-judged, verdict-refused}
 
 -- ---- the test is equality

@@ -1,2 +1,3 @@
 pub mod RoundLog
+pub mod Findings
 pub mod WorkedLogs

@@ -6,8 +6,6 @@ use Rattle.bytes_le.specs.Bytes.{Bytes, same}
 use Rattle.permutation.specs.State.{State}
 use Rattle.permutation.specs.Permutation.{max_rounds, R, P}
 use Rattle.state_bytes.specs.StateBytes.{state_length, bytes_of, state_of}
-use Rattle.round_log.specs.declared.Verdict.{Verdict}
-use Rattle.round_log.specs.declared.Verdict.TheVariants.{Agrees, Differs, Refused}
 
 -- "its state before each run and after every round": what is logged of a run from the state s through r rounds
 abbrev pub log_of_run : State → ℕ → Bytes
@@ -39,6 +37,12 @@ same_state (a ∷ s) [] = false
 same_state (a ∷ s) (b ∷ t) = cond (same a b) (same_state s t) false
 
 -- ---- the verdict
+-- every round agrees, and how many there are; or the first that differs, counted from 0; or the refusal number
+pub data Verdict : Type 0 where
+  Agrees : ℕ → Verdict
+  Differs : ℕ → Verdict
+  Refused : ℕ → Verdict
+
 module _ (log : Bytes) where
   -- "each state is one round from the one before, constants from 0": state i + 1 is round i, with constant i, of state i in the log, whatever led to that
   unfoldable pub round_agrees : ℕ → Bool

@@ -5,8 +5,7 @@ use Rattle.bytes_le.specs.Bytes.{Bytes}
 use Rattle.permutation.specs.Permutation.{start}
 use Rattle.permutation.specs.WorkedRound.{after_kappa}
 use Rattle.state_bytes.specs.StateBytes.{bytes_of}
-use Rattle.round_log.specs.RoundLog.{verdict}
-use Rattle.round_log.specs.declared.Verdict.TheVariants.{Agrees, Differs, Refused}
+use Rattle.round_log.specs.RoundLog.{verdict, Agrees, Differs, Refused}
 
 abbrev worked : Bytes
 worked = bytes_of start ++ bytes_of after_kappa

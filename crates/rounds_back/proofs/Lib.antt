@@ -1,12 +1,12 @@
 pub mod Compose
 pub mod Slices
 pub mod FiveBits
+pub mod Horner
 pub mod Mixing
 pub mod Turning
 pub mod Places
 pub mod Box
 pub mod Rounds
-pub mod InverseMatrix
 pub mod InverseSBox
 pub mod Answers
 pub mod WorkedBack

@@ -1,12 +1,14 @@
--- What the calls answer (02, N10): "From a wanted state and r from 0 to 12, give the state from which r rounds, constants from 0, reach it. .. It refuses r above 12
+-- What the call answers (02, N10): "From a wanted state and r from 0 to 12, give the state from which r rounds, constants from 0, reach it. .. It refuses r above 12
 -- with 20." Rounds forward have the same limits, so that the bench can see where they arrive.
 -- Assumes nothing.
-use Rattle.std.specs.Prelude.{cond, ℕ, ltb, replicate}
+use Rattle.std.specs.Prelude.{Result, cond, ℕ, ltb, replicate}
+use Rattle.bytes_le.specs.Bytes.{Bytes}
 use Rattle.permutation.specs.State.{State}
 use Rattle.permutation.specs.Permutation.{max_rounds, P}
 use Rattle.state_bytes.specs.StateBytes.{state_length, bytes_of}
+use Rattle.refusals.specs.declared.Refusal.{Refusal}
+use Rattle.refusals.specs.Numbers.{number_of, value_or}
 use Rattle.rounds_back.specs.Inverse.{P⁻¹}
-use Rattle.rounds_back.specs.declared.Driven.{Driven}
 use Rattle.rounds_back.specs.declared.Direction.{Direction}
 use Rattle.rounds_back.specs.declared.Direction.TheVariants.{Back, Forward}
 
@@ -15,7 +17,12 @@ abbrev pub ran : Direction → ℕ → State → State
 ran Back n s = P⁻¹ n s
 ran Forward n s = P n s
 
--- the state t, as its bytes in word order
+-- the answer: the refusal number, or 0, and the state as its bytes in word order
+pub record Driven : Type 0 where
+  pub refusal : ℕ
+  pub state : Bytes
+
+-- the state t
 abbrev pub driven_to : State → Driven
 driven_to t = record { refusal = 0; state = bytes_of t }
 
@@ -29,3 +36,7 @@ not_driven = record { refusal = too_many_rounds; state = replicate state_length 
 
 unfoldable pub driven : Direction → State → ℕ → Driven
 driven direction s r = cond (ltb max_rounds r) not_driven (driven_to (ran direction r s))
+
+-- what an answer of the code says
+abbrev pub answered : Result Bytes Refusal → Driven
+answered a = record { refusal = number_of a; state = value_or (λ b. b) not_driven.state a }

@@ -1,34 +1,28 @@
 -- What private functions do on whole words, 64 bit positions at once. No public contract and no claim names this file: `proofs/` leads from it to `Inverse`.
 -- Assumes nothing.
-use Rattle.std.specs.Prelude.{[], ◌∷◌, ℕ, get_or}
+use Rattle.std.specs.Prelude.{List, [], ◌∷◌, ℕ, cond, get_or}
 use Rattle.bits.specs.Bits.{bit, word}
-use Rattle.permutation.specs.State.{tabulate}
+use Rattle.permutation.specs.Field.{element}
+use Rattle.permutation.specs.State.{State, tabulate, slice}
+use Rattle.permutation.specs.Permutation.{times}
 use Rattle.permutation.specs.Words.{◌⊻◌, Column}
 use Rattle.rounds_back.specs.Inverse.{sbox⁻¹}
 
 -- ---- μ⁻¹: at each bit position the five words hold an element of GF(2^5), the word y its coefficient at a^y
-abbrev pub times4_words : Column → Column
-times4_words z = let Z : ℕ → ℕ = λ y. get_or z y 0 in Z 3 ∷ Z 4 ∷ (Z 0 ⊻ Z 3) ∷ (Z 1 ⊻ Z 4) ∷ Z 2 ∷ []
+-- a · p + q
+abbrev pub times_a_plus_words : Column → Column → Column
+times_a_plus_words p q =
+    let P : ℕ → ℕ = λ y. get_or p y 0 in
+    let Q : ℕ → ℕ = λ y. get_or q y 0 in
+    (P 4 ⊻ Q 0) ∷ (P 0 ⊻ Q 1) ∷ (P 1 ⊻ P 4 ⊻ Q 2) ∷ (P 2 ⊻ Q 3) ∷ (P 3 ⊻ Q 4) ∷ []
 
-abbrev pub times12_words : Column → Column
-times12_words z =
-    let Z : ℕ → ℕ = λ y. get_or z y 0 in
-    (Z 2 ⊻ Z 3) ∷ (Z 3 ⊻ Z 4) ∷ (Z 0 ⊻ Z 2 ⊻ Z 3 ⊻ Z 4) ∷ (Z 0 ⊻ Z 1 ⊻ Z 3 ⊻ Z 4) ∷ (Z 1 ⊻ Z 2 ⊻ Z 4) ∷ []
+-- the coefficient of n at a^k, which is 1 or 0, times p
+abbrev pub digit_times_words : ℕ → ℕ → Column → Column
+digit_times_words n k p = cond (element n k) p (0 ∷ 0 ∷ 0 ∷ 0 ∷ 0 ∷ [])
 
-abbrev pub times14_words : Column → Column
-times14_words z =
-    let Z : ℕ → ℕ = λ y. get_or z y 0 in
-    (Z 2 ⊻ Z 3 ⊻ Z 4) ∷ (Z 0 ⊻ Z 3 ⊻ Z 4) ∷ (Z 0 ⊻ Z 1 ⊻ Z 2 ⊻ Z 3) ∷ (Z 0 ⊻ Z 1 ⊻ Z 2 ⊻ Z 3 ⊻ Z 4) ∷ (Z 1 ⊻ Z 2 ⊻ Z 3 ⊻ Z 4) ∷ []
-
-abbrev pub times20_words : Column → Column
-times20_words z =
-    let Z : ℕ → ℕ = λ y. get_or z y 0 in
-    (Z 1 ⊻ Z 3 ⊻ Z 4) ∷ (Z 2 ⊻ Z 4) ∷ (Z 0 ⊻ Z 1 ⊻ Z 4) ∷ (Z 1 ⊻ Z 2) ∷ (Z 0 ⊻ Z 2 ⊻ Z 3) ∷ []
-
-abbrev pub times21_words : Column → Column
-times21_words z =
-    let Z : ℕ → ℕ = λ y. get_or z y 0 in
-    (Z 0 ⊻ Z 1 ⊻ Z 3 ⊻ Z 4) ∷ (Z 1 ⊻ Z 2 ⊻ Z 4) ∷ (Z 0 ⊻ Z 1 ⊻ Z 2 ⊻ Z 4) ∷ (Z 1 ⊻ Z 2 ⊻ Z 3) ∷ (Z 0 ⊻ Z 2 ⊻ Z 3 ⊻ Z 4) ∷ []
+-- a row of a matrix times the column vector
+abbrev pub row_words : List ℕ → State → Column
+row_words r s = tabulate 5 (λ y. word (λ z. times (r ∷ []) (slice s z) 0 y))
 
 -- ---- ψ⁻¹: the inverse S-box at each bit position of five words
 abbrev pub sbox⁻¹Words : Column → Column

@@ -1,15 +1,15 @@
 // Rounds of the core undone (02, N10), so that it can be driven to a chosen state. For a reader who has the rounds of `permutation` beside it: the inverse of each
-// step, in the paper's order, then of the round and of the rounds, and the two calls.
+// step, in the paper's order, then of the round and of the rounds, and the call.
 #![tactic(auto)]
 
-ghost use Rattle.std.specs.Prelude.{◌≡◌, ◌≤◌, ◌<◌};
+ghost use Rattle.std.specs.Prelude.{◌≡◌, ◌≤◌, ◌<◌, [], ◌∷◌};
 ghost use Rattle.permutation.specs.Permutation.{max_rounds, P};
 ghost use Rattle.rounds_back.specs.Inverse.{μ⁻¹, ρ⁻¹, π⁻¹, ψ⁻¹, R⁻¹, P⁻¹};
-ghost use Rattle.rounds_back.specs.Driven.{ran, not_driven, driven_to, driven};
-ghost use Rattle.rounds_back.specs.declared.Direction.TheVariants.{Back, Forward};
-ghost use Rattle.rounds_back.specs.Words.{times4_words, times12_words, times14_words, times20_words, times21_words, sbox⁻¹Words};
+ghost use Rattle.rounds_back.specs.Driven.{ran, driven, answered};
+ghost use Rattle.rounds_back.specs.Words.{times_a_plus_words, digit_times_words, row_words, sbox⁻¹Words};
 
 use permutation::{MAX_ROUNDS, RoundConstants};
+use refusals::Refusal;
 use state_bytes::STATE_BYTES;
 
 type State = [[u64; 5]; 4];
@@ -26,78 +26,56 @@ const RESTS: [[u32; 5]; 4] = [
     [36, 9, 39, 43, 8],
 ];
 
-// Times 4, that is a^2, at every bit position.
-fn times4(p: Column) -> Column
-    ensures { result ≡ times4_words p }
-{
-    [p[3], p[4], p[0] ^ p[3], p[1] ^ p[4], p[2]]
-}
-
-// Times 12, that is a^3 + a^2.
-fn times12(p: Column) -> Column
-    ensures { result ≡ times12_words p }
+// Times a at every bit position, and q added.
+fn times_a_plus(p: Column, q: Column) -> Column
+    ensures { result ≡ times_a_plus_words p q }
 {
     [
-        p[2] ^ p[3],
-        p[3] ^ p[4],
-        p[0] ^ p[2] ^ p[3] ^ p[4],
-        p[0] ^ p[1] ^ p[3] ^ p[4],
-        p[1] ^ p[2] ^ p[4],
+        p[4] ^ q[0],
+        p[0] ^ q[1],
+        p[1] ^ p[4] ^ q[2],
+        p[2] ^ q[3],
+        p[3] ^ q[4],
     ]
 }
 
-// Times 14, that is a^3 + a^2 + a.
-fn times14(p: Column) -> Column
-    ensures { result ≡ times14_words p }
+// The column p where the number N has the binary digit 1 at k, else zeros.
+fn digit_times<const N: u32>(k: u32, p: Column) -> Column
+    requires { k < 5 }
+    ensures { result ≡ digit_times_words N k p }
 {
-    [
-        p[2] ^ p[3] ^ p[4],
-        p[0] ^ p[3] ^ p[4],
-        p[0] ^ p[1] ^ p[2] ^ p[3],
-        p[0] ^ p[1] ^ p[2] ^ p[3] ^ p[4],
-        p[1] ^ p[2] ^ p[3] ^ p[4],
-    ]
+    if (N >> k) % 2 == 1 { p } else { [0; 5] }
 }
 
-// Times 20, that is a^4 + a^2.
-fn times20(p: Column) -> Column
-    ensures { result ≡ times20_words p }
+// Mu undone (003, 2.5, μ), for one x: a row N0 N1 N2 N3 of the inverse matrix times the column vector, by Horner's rule from the coefficients at a^4 down. The numbers
+// are the paper's for elements of GF(2^5). The compiler unrolls the loop.
+fn row<const N0: u32, const N1: u32, const N2: u32, const N3: u32>(s: State) -> Column
+    ensures { result ≡ row_words (N0 ∷ N1 ∷ N2 ∷ N3 ∷ []) s }
 {
-    [
-        p[1] ^ p[3] ^ p[4],
-        p[2] ^ p[4],
-        p[0] ^ p[1] ^ p[4],
-        p[1] ^ p[2],
-        p[0] ^ p[2] ^ p[3],
-    ]
+    let mut t = [0; 5];
+    for k in (0..5).rev() {
+        let q = permutation::sum(
+            digit_times::<N0>(k, s[0]),
+            digit_times::<N1>(k, s[1]),
+            digit_times::<N2>(k, s[2]),
+            digit_times::<N3>(k, s[3]),
+        );
+        let u = times_a_plus(t, q);
+        t = u;
+    }
+    t
 }
 
-// Times 21, that is a^4 + a^2 + 1.
-fn times21(p: Column) -> Column
-    ensures { result ≡ times21_words p }
-{
-    [
-        p[0] ^ p[1] ^ p[3] ^ p[4],
-        p[1] ^ p[2] ^ p[4],
-        p[0] ^ p[1] ^ p[2] ^ p[4],
-        p[1] ^ p[2] ^ p[3],
-        p[0] ^ p[2] ^ p[3] ^ p[4],
-    ]
-}
-
-// Mu undone (003, 2.5, μ): each line has its row of the inverse matrix beside it.
+// Mu undone (003, 2.5, μ).
 fn mu_back(s: State) -> State
     ensures { result ≡ μ⁻¹ s }
 {
-    let z0 = s[0];
-    let z1 = s[1];
-    let z2 = s[2];
-    let z3 = s[3];
-    let row0 = permutation::sum(times21(z0), times14(z1), times14(z2), times14(z3)); // 21 14 14 14
-    let row1 = permutation::sum(times14(z0), times4(z1), times20(z2), times12(z3)); // 14  4 20 12
-    let row2 = permutation::sum(times14(z0), times12(z1), times4(z2), times20(z3)); // 14 12  4 20
-    let row3 = permutation::sum(times14(z0), times20(z1), times12(z2), times4(z3)); // 14 20 12  4
-    [row0, row1, row2, row3]
+    [
+        row::<21, 14, 14, 14>(s),
+        row::<14, 4, 20, 12>(s),
+        row::<14, 12, 4, 20>(s),
+        row::<14, 20, 12, 4>(s),
+    ]
 }
 
 // Rho undone (003, 2.5, ρ): every word is rotated on by its rest.
@@ -178,94 +156,44 @@ fn back(s: State, n: usize) -> State
 {
     let constant = permutation::constant_table();
     let mut t = s;
-    let mut i = n;
-    while i > 0 {
-        i -= 1;
+    for i in (0..n).rev() {
         let before = round_back(t, &constant, i);
         t = before;
     }
     t
 }
 
-// The first n rounds.
-fn forward(s: State, n: usize) -> State
-    requires { n ≤ max_rounds }
-    ensures { result ≡ P n s }
-{
-    let mut t = s;
-    permutation::rounds(&mut t, n);
-    t
-}
-
 // Which way rounds are run.
-#[derive(Clone, Copy)]
+#[derive(Clone, Copy, Debug, PartialEq, Eq)]
 pub enum Direction {
     Back,
     Forward,
 }
 
 // The first n rounds, one way or the other.
-fn run(s: State, direction: Direction, n: usize) -> State
+fn run(mut s: State, direction: Direction, n: usize) -> State
     requires { n ≤ max_rounds }
     ensures { result ≡ ran direction n s }
 {
     match direction {
         Direction::Back => back(s, n),
-        Direction::Forward => forward(s, n),
+        Direction::Forward => {
+            permutation::rounds(&mut s, n);
+            s
+        }
     }
 }
 
-// The answer of the two calls: the refusal number, or 0, and the state as its bytes in word order.
-#[derive(Clone, Copy)]
-pub struct Driven {
-    pub refusal: u32,
-    pub state: [u8; STATE_BYTES],
-}
-
-// The refusal number of more than twelve rounds.
-pub const TOO_MANY_ROUNDS: u32 = 20;
-
-fn refused() -> Driven
-    ensures { result ≡ not_driven }
-{
-    Driven {
-        refusal: TOO_MANY_ROUNDS,
-        state: [0; STATE_BYTES],
-    }
-}
-
-fn reached(t: State) -> Driven
-    ensures { result ≡ driven_to t }
-{
-    let mut b = [0; STATE_BYTES];
-    state_bytes::store_state(&t, &mut b);
-    Driven {
-        refusal: 0,
-        state: b,
-    }
-}
-
-// Both calls. Internal: only crates of ours call it.
-pub fn drive(s: State, direction: Direction, r: u32) -> Driven
-    ensures { result ≡ driven direction s r }
+// Back: the one state from which r rounds, constants from 0, reach s (02, N10). Forward: the state that they reach from s, within the same limits. Given as its
+// bytes in word order.
+pub fn drive(s: State, direction: Direction, r: u32) -> Result<[u8; STATE_BYTES], Refusal>
+    ensures { answered result ≡ driven direction s r }
 {
     if r as usize > MAX_ROUNDS {
-        return refused();
+        return Err(Refusal::TooManyRounds);
     }
     let t = run(s, direction, r as usize);
-    reached(t)
-}
-
-// The one state from which r rounds, constants from 0, reach s (02, N10).
-pub fn rounds_back(s: State, r: u32) -> Driven
-    ensures { result ≡ driven Back s r }
-{
-    drive(s, Direction::Back, r)
-}
-
-// The state that r rounds, constants from 0, reach from s, within the same limits.
-pub fn rounds_forward(s: State, r: u32) -> Driven
-    ensures { result ≡ driven Forward s r }
-{
-    drive(s, Direction::Forward, r)
+    let mut reached = [0; STATE_BYTES];
+    state_bytes::store_state(&t, &mut reached);
+    Ok(reached)
 }

@@ -16,6 +16,3 @@ returns-then-states c = sym (verdict-refused _ (λ r h. omega arith))
 
 pub returns : goal.returns
 returns c = c.judge.ensures ∙ sym (verdict-judged _ _ (omega arith, omega arith, omega arith))
-
-pub judge-requires : goal.judge-requires
-judge-requires c = (omega arith, omega arith)

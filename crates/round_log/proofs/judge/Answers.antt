@@ -1,36 +1,29 @@
 -- `round_log::judge` meets its contract. The loop's invariant: the verdict on the rounds from i on is the verdict on all.
 -- Assumes nothing.
-use mathlib.Core.Path.{◌≡◌, sym, ap, ap₂, ◌∙◌}
+use mathlib.Core.Path.{◌≡◌, sym, ap₂, ◌∙◌}
 use mathlib.Core.Bool.{Bool, true, false, cond}
 use Prim.Native.Nat.{◌+◌, ◌-◌}
 use native.Mathlib.Omega.{arith}
-use Rattle.round_log.specs.RoundLog.{judged}
-use Rattle.round_log.specs.declared.Verdict.TheVariants.{Differs}
+use Rattle.round_log.specs.RoundLog.{judged, Differs}
 use Rattle.round_log.proofs.Judging.{judged-by}
 use Rattle.round_log.proofs.judge.Goals as goal
-use Rattle.round_log.proofs.judge.Goals.{After-same_state}
+use Rattle.round_log.proofs.judge.Goals.{After-ne}
 
 -- the verdict on all, once round i is compared
-compared : (c : After-same_state) → let a = c.args in
-    (t : Bool) → c.same_state.result ≡ t
-    → cond t (judged a.log.now (c.loop-i.i + 1) (a.r - (c.loop-i.i + 1))) (Differs c.loop-i.i) ≡ judged a.log.now 0 a.r
-compared c t e =
+compared : (c : After-ne) → let a = c.args in
+    (d : Bool) → c.ne.result ≡ d
+    → cond d (Differs c.loop-i.i) (judged a.log.now (c.loop-i.i + 1) (a.r - (c.loop-i.i + 1))) ≡ judged a.log.now 0 a.r
+compared c d e =
     let a = c.args in
     judged-by a.log.now a.r c.loop-i.i (omega arith) _ _ _
-    c.state_at-before.ensures c.round_at-expected.ensures c.state_at-after.ensures t (sym e ∙ c.same_state.ensures)
+    c.state_at-before.ensures c.round_at-expected.ensures c.state_at-after.ensures d (sym e ∙ c.ne.ensures)
     ∙ c.loop-i.invariant.1
 
-pub loop-i-init : goal.loop-i-init
-loop-i-init c =
-    let a = c.args in
-    let e : a.r - 0 ≡ a.r = omega arith in
-    (omega arith, ap (judged a.log.now 0) e)
-
 pub loop-i-preserved : goal.loop-i-preserved
-loop-i-preserved c = (omega arith, compared (goal.at.loop-i-preserved c).After-same_state true c.if-not-same_state.false)
+loop-i-preserved c = (omega arith, compared (goal.at.loop-i-preserved c).After-ne false c.if-ne.false)
 
-pub returns-then-not-same_state : goal.returns-then-not-same_state
-returns-then-not-same_state c = compared (goal.at.returns-then-not-same_state c).After-same_state false c.if-not-same_state.true
+pub returns-then-ne : goal.returns-then-ne
+returns-then-ne c = compared (goal.at.returns-then-ne c).After-ne true c.if-ne.true
 
 pub returns : goal.returns
 unfolding judged

@@ -1,12 +1,8 @@
 -- `rounds_back::back` meets its contract. The loop's invariant: what undoing the first i rounds of the state makes is what undoing all was to make.
 -- Assumes nothing.
 use mathlib.Core.Path.{◌≡◌}
-use Prim.Native.Nat.{◌≤◌}
 use Rattle.rounds_back.specs.Inverse.{P⁻¹}
 use Rattle.rounds_back.proofs.back.Given as goal
 
 abbrev pub invariant-loop-i : goal.invariant-loop-i
-invariant-loop-i l = (l.i ≤ l.n) × (P⁻¹ l.i l.t ≡ P⁻¹ l.n l.initial.t)
-
-abbrev pub decreases-loop-i : goal.decreases-loop-i
-decreases-loop-i l = l.i
+invariant-loop-i l = P⁻¹ l.i l.t ≡ P⁻¹ l.n l.initial.t
