@@ -1,6 +1,6 @@
 -- `strips::start_into` meets its contract: what `may_start` turns down is the answer; else all that `seal_ready` wants is so.
 -- Assumes nothing.
-use mathlib.Core.Path.{refl, sym, ap, ◌∙◌}
+use mathlib.Core.Path.{sym, ap, ◌∙◌}
 use native.Mathlib.Omega.{arith}
 use borrow.Author.Rules.{rules}
 use mathlib.Core.Bool.{false}
