@@ -105,7 +105,7 @@ fn seal(k: usize, m: usize, s: usize, a: usize, b: &[u8], out: &mut [u8]) -> u32
         &b[MESSAGE..message],
         out,
     );
-    r.refusal
+    refusals::number_of(&r)
 }
 
 // Whether a holds the n bytes of b from index at on at its front.
@@ -141,11 +141,14 @@ fn opens(k: usize, m: usize, s: usize, a: usize, b: &[u8], sealed: &[u8]) -> boo
         sealed,
         &mut out,
     );
-    let secret = r.secret;
-    r.refusal == 0
-        && r.length == m
-        && same(&out, b, MESSAGE, m)
-        && same(&secret, b, SECRET, secret_length(k))
+    match r {
+        Ok(released) => {
+            released.length == m
+                && same(&out, b, MESSAGE, m)
+                && same(&released.secret, b, SECRET, secret_length(k))
+        }
+        Err(_) => false,
+    }
 }
 
 // Two hex digits for each byte.
