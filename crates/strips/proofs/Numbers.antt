@@ -5,6 +5,7 @@ use mathlib.Core.Bool.{Bool, true, false, ◌||◌}
 use mathlib.Core.Logic.{⊎_elim}
 use Prim.Native.Nat.{ℕ, ◌+◌, ◌≤◌, ◌<◌, min}
 use native.Mathlib.Omega.{arith}
+use Rattle.std.proofs.Math.Nat.{min-eq_left}
 use borrow.Author.Tests.{le-ltb, lt-ltb, ltb-false}
 use lib.Dec.{ltb}
 use Rattle.bits.proofs.Cases.{le-or-lt}
@@ -15,14 +16,17 @@ use Rattle.icepole.proofs.Numbers.{SealFits, neither, passed, seal-0, seal-fits}
 use Rattle.strips.specs.Answers.{start_number, strip_number, end_number}
 
 -- ---- start: sealing no message
+-- every output with room gives the same number
+seal-room : (q : Sizes) (k n s a m o o' : ℕ) → q.secret + (m + 16) ≤ o → q.secret + (m + 16) ≤ o' → seal_number q k n s a m o ≡ seal_number q k n s a m o'
+unfolding seal_number
+seal-room q k n s a m o o' h h' = rw (le-ltb o (q.secret + (m + 16)) h, le-ltb o' (q.secret + (m + 16)) h') refl
+
 -- the code looks at no more of the output than the secret number takes
 pub start-cut : (q : Sizes) (k n s a o : ℕ) → seal_number q k n s a 0 (min o q.secret + 16) ≡ start_number q k n s a o
-unfolding start_number seal_number
+unfolding start_number
 start-cut q k n s a o =
-    ⊎_elim
-    (λ h. rw (le-ltb (min o q.secret + 16) (q.secret + 16) (omega arith), le-ltb (o + 16) (q.secret + 16) (omega arith)) refl)
-    (λ h. rw (lt-ltb (min o q.secret + 16) (q.secret + 16) (omega arith), lt-ltb (o + 16) (q.secret + 16) (omega arith)) refl)
-    (le-or-lt q.secret o)
+    ⊎_elim (λ h. seal-room q k n s a 0 (min o q.secret + 16) (o + 16) (omega arith) (omega arith))
+    (λ h. ap (λ (r : ℕ). seal_number q k n s a 0 (r + 16)) (min-eq_left {n = o} {m = q.secret} (omega arith))) (le-or-lt q.secret o)
 
 pub start_fits : (q : Sizes) (k n s a o : ℕ) → start_number q k n s a o ≡ 0 → SealFits q k n s a 0 (o + 16)
 unfolding start_number
