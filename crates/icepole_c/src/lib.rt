@@ -177,7 +177,10 @@ pub fn strip(state: &mut [u8], message: &[u8], out: &mut [u8]) -> u32
     }
     let count = bytes_le::load_u64(state, COUNT_AT) as usize;
     let finished = state[FINISHED_AT] != 0;
-    let fed = strips::strip_in(&mut state[0..STATE_BYTES], count, finished, message, out);
+    let Some(bytes) = state.first_chunk_mut::<STATE_BYTES>() else {
+        return Refusal::OutputTooShort.number();
+    };
+    let fed = strips::strip_in(bytes, count, finished, message, out);
     if let Err(refusal) = fed {
         return refusal.number();
     }
@@ -192,9 +195,11 @@ pub fn end(state: &mut [u8], out: &mut [u8]) -> u32
         return Refusal::OutputTooShort.number();
     }
     let ended = strips::end(strip_state_in(state), out);
-    if let Err(refusal) = ended.written {
-        return refusal.number();
+    match ended.written {
+        Ok(_) => {
+            put_strip_state(ended.state, state);
+            0
+        }
+        Err(refusal) => refusal.number(),
     }
-    put_strip_state(ended.state, state);
-    0
 }

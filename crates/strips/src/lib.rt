@@ -8,7 +8,7 @@ ghost use Rattle.bytes_le.specs.Bytes.{put_bytes};
 ghost use Rattle.icepole.specs.declared.Variant.TheVariants.{Icepole128};
 ghost use Rattle.icepole.specs.Answers.{unless};
 ghost use Rattle.icepole.specs.Variants.{sizes};
-ghost use Rattle.state_bytes.specs.StateBytes.{state_length, bytes_of};
+ghost use Rattle.state_bytes.specs.StateBytes.{bytes_of};
 ghost use Rattle.strips.specs.Machine.{held, fed, fed_bytes, fill_of};
 ghost use Rattle.strips.specs.Answers.{block, start_number, strip_number, end_number, call_as, answered_as, not_started, start_answer, start_output, strip_answer, strip_output, end_answer, end_output};
 
@@ -19,11 +19,14 @@ use state_bytes::STATE_BYTES;
 
 type State = [[u64; 5]; 4];
 
+// A state's bytes.
+type StateBytes = [u8; STATE_BYTES];
+
 // Between two strips: the state's bytes, with the block that waits xored in, and how many bytes of the message came. It may be made by anybody. The end marks it
 // finished (01, "Afterwards"), a mark that is kept with the count.
 #[derive(Clone, Copy)]
 pub struct StripState {
-    pub bytes: [u8; STATE_BYTES],
+    pub bytes: StateBytes,
     pub count: usize,
     pub finished: bool,
 }
@@ -109,9 +112,9 @@ fn fill_of(count: usize) -> usize
     (count - 1) % BLOCK_BYTES + 1
 }
 
-// Seals the first n bytes of m within the block that waits, into out at its front. b has the state's bytes.
-fn feed_block(b: &mut [u8], fill: usize, m: &[u8], n: usize, out: &mut [u8])
-    requires { (length b.old ≡ state_length) × (fill + n ≤ block) × (n ≤ length m.now) × (n ≤ length out.old) }
+// Seals the first n bytes of m within the block that waits, into out at its front.
+fn feed_block(b: &mut StateBytes, fill: usize, m: &[u8], n: usize, out: &mut [u8])
+    requires { (fill + n ≤ block) × (n ≤ length m.now) × (n ≤ length out.old) }
     ensures { (held b.new (fill + n) ≡ fed block (held b.old fill) (take n m.now))
         × (out.new ≡ put_bytes out.old 0 (fed_bytes block (held b.old fill) (take n m.now))) }
 {
@@ -123,8 +126,8 @@ fn feed_block(b: &mut [u8], fill: usize, m: &[u8], n: usize, out: &mut [u8])
 }
 
 // Seals the bytes of m from index at on, at most a block, where one begins. The block waits: b gets the state's bytes with it.
-fn feed_last(s: &mut State, m: &[u8], at: usize, out: &mut [u8], b: &mut [u8])
-    requires { (at ≤ length m.now) × (length m.now ≤ at + block) × (length m.now ≤ length out.old) × (length b.old ≡ state_length) }
+fn feed_last(s: &mut State, m: &[u8], at: usize, out: &mut [u8], b: &mut StateBytes)
+    requires { (at ≤ length m.now) × (length m.now ≤ at + block) × (length m.now ≤ length out.old) }
     ensures { (b.new ≡ (fed block (held (bytes_of s.old) 0) (drop at m.now)).state)
         × (out.new ≡ put_bytes out.old at (fed_bytes block (held (bytes_of s.old) 0) (drop at m.now))) }
 {
@@ -138,8 +141,8 @@ fn feed_last(s: &mut State, m: &[u8], at: usize, out: &mut [u8], b: &mut [u8])
 }
 
 // The same for any number of bytes, word by word.
-fn feed_blocks(s: &mut State, m: &[u8], from: usize, out: &mut [u8], b: &mut [u8])
-    requires { (from ≤ length m.now) × (length m.now ≤ length out.old) × (length b.old ≡ state_length) }
+fn feed_blocks(s: &mut State, m: &[u8], from: usize, out: &mut [u8], b: &mut StateBytes)
+    requires { (from ≤ length m.now) × (length m.now ≤ length out.old) }
     ensures { (b.new ≡ (fed block (held (bytes_of s.old) 0) (drop from m.now)).state)
         × (out.new ≡ put_bytes out.old from (fed_bytes block (held (bytes_of s.old) 0) (drop from m.now))) }
 {
@@ -153,8 +156,8 @@ fn feed_blocks(s: &mut State, m: &[u8], from: usize, out: &mut [u8], b: &mut [u8
 }
 
 // A strip is sealed into out, at its front; b has the state's bytes, and fill those of the block that waits.
-fn feed(b: &mut [u8], fill: usize, m: &[u8], out: &mut [u8])
-    requires { (length b.old ≡ state_length) × (fill ≤ block) × (length m.now ≤ length out.old) }
+fn feed(b: &mut StateBytes, fill: usize, m: &[u8], out: &mut [u8])
+    requires { (fill ≤ block) × (length m.now ≤ length out.old) }
     ensures { (b.new ≡ (fed block (held b.old fill) m.now).state)
         × (out.new ≡ put_bytes out.old 0 (fed_bytes block (held b.old fill) m.now)) }
 {
@@ -172,13 +175,12 @@ fn feed(b: &mut [u8], fill: usize, m: &[u8], out: &mut [u8])
 // A strip in place: where it is not turned down, the state's bytes after it in b, and the strip in out at its front, sealed. Internal: `strip` and the C call of
 // a strip are made of it.
 pub fn strip_in(
-    b: &mut [u8],
+    b: &mut StateBytes,
     count: usize,
     finished: bool,
     message: &[u8],
     out: &mut [u8],
 ) -> Result<(), Refusal>
-    requires { length b.old ≡ state_length }
     ensures number { number_of result ≡ strip_number finished count (length message.now) (length out.old) }
     ensures mark { mark_of result ≡ 0 }
     ensures state { b.new ≡ unless (number_of result) b.old (fed block (held b.old (fill_of block count)) message.now).state }

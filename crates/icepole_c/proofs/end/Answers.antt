@@ -25,9 +25,9 @@ returns-in-Err c =
     (end_refused a.state.now a.out.now c.if-state-lt-STRIP_STATE_LENGTH.false _ c.strip_state_in.ensures _ e.answer _ e.output
     (λ z. nonzero c.in-Err.refusal (sym (ap of c.in-Err.is) ∙ z)))
 
-pub returns : goal.returns
-returns c =
+pub returns-in-Ok : goal.returns-in-Ok
+returns-in-Ok c =
     let a = c.args in
     let e = c.end-ended.ensures in
     end-done a.state.now a.out.now c.if-state-lt-STRIP_STATE_LENGTH.false _ c.strip_state_in.ensures _ e.answer _ e.output
-    (ap of c.in_default.is) _ c.put_strip_state.ensures
+    (ap of c.in-Ok.is) _ c.put_strip_state.ensures

@@ -3,12 +3,9 @@
 use mathlib.Core.Path.{ap₂}
 use mathlib.Core.Bool.{not}
 use Prim.Native.Nat.{ℕ}
-use native.Mathlib.Omega.{arith}
 use lib.Dec.{eqb}
-use lib.ListN.{length, take, get_or}
-use lib.Seq.{length-take-le}
+use lib.ListN.{get_or}
 use Rattle.bytes_le.specs.Bytes.{Bytes}
-use Rattle.bytes_le.proofs.Laws.{put_whole}
 use Rattle.icepole_c.proofs.strip_state_in.Goals as goal
 
 pub returns : goal.returns

@@ -2,6 +2,7 @@
 -- Assumes nothing.
 use mathlib.Core.Path.{◌≡◌, ap, ◌∙◌}
 use native.Mathlib.Omega.{arith}
+use borrow.Author.Rules.{rules}
 use lib.ListN.{length, take}
 use lib.Seq.{take-length}
 use Rattle.bytes_le.specs.Bytes.{Bytes, put_bytes}
@@ -25,7 +26,7 @@ returns c =
     let a = c.args in
     let h = c.if-m-room.false in
     let q = c.feed_block-2 in
-    let f = c.finish.ensures ∙ ap (λ (b : Bytes). finish b 128 1) (loaded q.new.b _ c.load_state.ensures (q.auto.b ∙ c.requires.0)) in (
+    let f = c.finish.ensures ∙ ap (λ (b : Bytes). finish b 128 1) (loaded q.new.b _ c.load_state.ensures (search rules)) in (
       c.feed_blocks.ensures.0 ∙ ap (λ (k : Held). k.state) (strip-fed a.b.now a.fill a.m.now _ (omega arith) h _ _ q.ensures.0 f),
       c.feed_blocks.ensures.1
           ∙ strip-put a.b.now a.fill a.m.now _ (omega arith) h _ _ q.ensures.0 f a.out.now _ (omega arith) q.ensures.1,

@@ -24,7 +24,7 @@ returns-in_err-may_strip-clause-output c = rw (passed-on _ _ c.from_residual.ens
 pub feed-requires : goal.feed-requires
 feed-requires c =
     let w = strip-fits _ _ _ _ (sym c.in_ok-may_strip.ensures.number) in
-    (c.requires, c.fill_of.ensures.1, w.out)
+    (c.fill_of.ensures.1, w.out)
 
 pub returns-clause-state : goal.returns-clause-state
 returns-clause-state c =
