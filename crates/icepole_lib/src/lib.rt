@@ -6,7 +6,7 @@ ghost use Rattle.std.specs.Prelude.{◌++◌};
 ghost use Rattle.icepole_c.specs.Calls.{SealContract, OpenContract, InPlaceContract};
 ghost use Rattle.icepole_c.specs.Strips.{StartContract, StripContract, EndContract};
 
-use icepole::Variant;
+use icepole::Variant::{self, Icepole128, Icepole128a, Icepole256a};
 
 #[unsafe(no_mangle)]
 pub extern "C" fn icepole128_seal(
@@ -21,16 +21,7 @@ pub extern "C" fn icepole128_seal(
     ensures { SealContract Variant.Icepole128 key.now nonce.now secret.now
         (first.now ++ second.now) message.now out.old result out.new }
 {
-    icepole_c::seal(
-        Variant::Icepole128,
-        key,
-        nonce,
-        secret,
-        first,
-        second,
-        message,
-        out,
-    )
+    icepole_c::seal(Icepole128, key, nonce, secret, first, second, message, out)
 }
 
 #[unsafe(no_mangle)]
@@ -46,16 +37,7 @@ pub extern "C" fn icepole128_open(
     ensures { OpenContract Variant.Icepole128 key.now nonce.now
         (first.now ++ second.now) sealed.now out.old info.old result out.new info.new }
 {
-    icepole_c::open(
-        Variant::Icepole128,
-        key,
-        nonce,
-        first,
-        second,
-        sealed,
-        out,
-        info,
-    )
+    icepole_c::open(Icepole128, key, nonce, first, second, sealed, out, info)
 }
 
 #[unsafe(no_mangle)]
@@ -86,16 +68,7 @@ pub extern "C" fn icepole128a_seal(
     ensures { SealContract Variant.Icepole128a key.now nonce.now secret.now
         (first.now ++ second.now) message.now out.old result out.new }
 {
-    icepole_c::seal(
-        Variant::Icepole128a,
-        key,
-        nonce,
-        secret,
-        first,
-        second,
-        message,
-        out,
-    )
+    icepole_c::seal(Icepole128a, key, nonce, secret, first, second, message, out)
 }
 
 #[unsafe(no_mangle)]
@@ -111,16 +84,7 @@ pub extern "C" fn icepole128a_open(
     ensures { OpenContract Variant.Icepole128a key.now nonce.now
         (first.now ++ second.now) sealed.now out.old info.old result out.new info.new }
 {
-    icepole_c::open(
-        Variant::Icepole128a,
-        key,
-        nonce,
-        first,
-        second,
-        sealed,
-        out,
-        info,
-    )
+    icepole_c::open(Icepole128a, key, nonce, first, second, sealed, out, info)
 }
 
 #[unsafe(no_mangle)]
@@ -135,15 +99,7 @@ pub extern "C" fn icepole128a_open_in_place(
     ensures { InPlaceContract Variant.Icepole128a key.now nonce.now
         (first.now ++ second.now) buffer.old info.old result buffer.new info.new }
 {
-    icepole_c::open_in_place(
-        Variant::Icepole128a,
-        key,
-        nonce,
-        first,
-        second,
-        buffer,
-        info,
-    )
+    icepole_c::open_in_place(Icepole128a, key, nonce, first, second, buffer, info)
 }
 
 #[unsafe(no_mangle)]
@@ -159,16 +115,7 @@ pub extern "C" fn icepole256a_seal(
     ensures { SealContract Variant.Icepole256a key.now nonce.now secret.now
         (first.now ++ second.now) message.now out.old result out.new }
 {
-    icepole_c::seal(
-        Variant::Icepole256a,
-        key,
-        nonce,
-        secret,
-        first,
-        second,
-        message,
-        out,
-    )
+    icepole_c::seal(Icepole256a, key, nonce, secret, first, second, message, out)
 }
 
 #[unsafe(no_mangle)]
@@ -184,16 +131,7 @@ pub extern "C" fn icepole256a_open(
     ensures { OpenContract Variant.Icepole256a key.now nonce.now
         (first.now ++ second.now) sealed.now out.old info.old result out.new info.new }
 {
-    icepole_c::open(
-        Variant::Icepole256a,
-        key,
-        nonce,
-        first,
-        second,
-        sealed,
-        out,
-        info,
-    )
+    icepole_c::open(Icepole256a, key, nonce, first, second, sealed, out, info)
 }
 
 #[unsafe(no_mangle)]
@@ -208,15 +146,7 @@ pub extern "C" fn icepole256a_open_in_place(
     ensures { InPlaceContract Variant.Icepole256a key.now nonce.now
         (first.now ++ second.now) buffer.old info.old result buffer.new info.new }
 {
-    icepole_c::open_in_place(
-        Variant::Icepole256a,
-        key,
-        nonce,
-        first,
-        second,
-        buffer,
-        info,
-    )
+    icepole_c::open_in_place(Icepole256a, key, nonce, first, second, buffer, info)
 }
 
 #[unsafe(no_mangle)]
