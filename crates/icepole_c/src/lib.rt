@@ -113,7 +113,7 @@ const FINISHED_AT: usize = COUNT_AT + 8;
 
 const STRIP_STATE_LENGTH: usize = FINISHED_AT + 1;
 
-// The strip state that stands at the front of b.
+// The strip state that stands at the front of b. No `From`: where it stands is the C interface's, and the type is another crate's.
 fn strip_state_in(b: &[u8]) -> StripState
     requires { strip_state_length ≤ length b.now }
     ensures { result ≡ strip_state_in b.now }

@@ -2,7 +2,7 @@
 // sealing.
 #![tactic(auto)]
 
-ghost use Rattle.std.specs.Prelude.{◌≡◌, ◌++◌, ◌+◌, ◌≤◌, length, take, drop};
+ghost use Rattle.std.specs.Prelude.{◌≡◌, ◌++◌, ◌+◌, ◌≤◌, length, drop};
 ghost use Rattle.refusals.specs.Numbers.{number_of, mark_of};
 ghost use Rattle.bytes_le.specs.Bytes.{put_bytes};
 ghost use Rattle.icepole.specs.declared.Variant.TheVariants.{Icepole128};
@@ -23,7 +23,7 @@ type State = [[u64; 5]; 4];
 type StateBytes = [u8; STATE_BYTES];
 
 // Between two strips: the state's bytes, with the block that waits xored in, and how many bytes of the message came. It may be made by anybody. The end marks it
-// finished (01, "Afterwards"), a mark that is kept with the count.
+// finished (01, "Afterwards") and leaves the count, so that the mark is a field: the theorems of StripLists (`claims`) speak of both.
 #[derive(Clone, Copy)]
 pub struct StripState {
     pub bytes: StateBytes,
@@ -112,14 +112,14 @@ fn fill_of(count: usize) -> usize
     (count - 1) % BLOCK_BYTES + 1
 }
 
-// Seals the first n bytes of m within the block that waits, into out at its front.
-fn feed_block(b: &mut StateBytes, fill: usize, m: &[u8], n: usize, out: &mut [u8])
-    requires { (fill + n ≤ block) × (n ≤ length m.now) × (n ≤ length out.old) }
-    ensures { (held b.new (fill + n) ≡ fed block (held b.old fill) (take n m.now))
-        × (out.new ≡ put_bytes out.old 0 (fed_bytes block (held b.old fill) (take n m.now))) }
+// Seals m within the block that waits, into out at its front.
+fn feed_block(b: &mut StateBytes, fill: usize, m: &[u8], out: &mut [u8])
+    requires { (fill + length m.now ≤ block) × (length m.now ≤ length out.old) }
+    ensures { (held b.new (fill + length m.now) ≡ fed block (held b.old fill) m.now)
+        × (out.new ≡ put_bytes out.old 0 (fed_bytes block (held b.old fill) m.now)) }
 {
-    for j in 0..n {
-        let c = b[fill + j] ^ m[j];
+    for (j, x) in m.iter().enumerate() {
+        let c = b[fill + j] ^ x;
         b[fill + j] = c;
         out[j] = c;
     }
@@ -147,6 +147,7 @@ fn feed_blocks(s: &mut State, m: &[u8], from: usize, out: &mut [u8], b: &mut Sta
         × (out.new ≡ put_bytes out.old from (fed_bytes block (held (bytes_of s.old) 0) (drop from m.now))) }
 {
     let mut at = from;
+    // No `for` is plainer: the last block, full or not, waits, and begins at the index that the loop ends with.
     while BLOCK_BYTES < m.len() - at {
         blocks::encrypt_words(s, m, at, BLOCK_WORDS, out, at);
         blocks::finish(s, BLOCK_BYTES, 1);
@@ -163,9 +164,9 @@ fn feed(b: &mut StateBytes, fill: usize, m: &[u8], out: &mut [u8])
 {
     let room = BLOCK_BYTES - fill;
     if m.len() <= room {
-        return feed_block(b, fill, m, m.len(), out);
+        return feed_block(b, fill, m, out);
     }
-    feed_block(b, fill, m, room, out);
+    feed_block(b, fill, &m[..room], out);
     let mut s = [[0u64; 5]; 4];
     state_bytes::load_state(&mut s, b);
     blocks::finish(&mut s, BLOCK_BYTES, 1);
@@ -173,7 +174,7 @@ fn feed(b: &mut StateBytes, fill: usize, m: &[u8], out: &mut [u8])
 }
 
 // A strip in place: where it is not turned down, the state's bytes after it in b, and the strip in out at its front, sealed. Internal: `strip` and the C call of
-// a strip are made of it.
+// a strip are made of it, and that call has the state in a lent slice, in parts.
 pub fn strip_in(
     b: &mut StateBytes,
     count: usize,

@@ -6,7 +6,7 @@ use native.Mathlib.Nat.{add-zero}
 use native.Mathlib.Omega.{arith}
 use lib.Bits.{bit_xor}
 use lib.ListN.{length, take, get_or, set}
-use lib.Seq.{length-take-le}
+use lib.Seq.{length-take-le, take_all}
 use Rattle.bytes_le.specs.Bytes.{Bytes, put_bytes}
 use Rattle.bytes_le.proofs.Laws.{put-none, put-snoc}
 use Rattle.strips.specs.Machine.{held, fed, fed_bytes}
@@ -23,8 +23,7 @@ loop-j-preserved c =
     let a = c.args in
     let b = a.b.now in
     let m = a.m.now in
-    let h : l.j < a.n = c.loop-j-test.true in
-    let hm : l.j < length a.m.now = omega arith in
+    let hm : l.j < length a.m.now = c.loop-j-test.true in
     let hf : a.fill + l.j < 128 = omega arith in
     let lp : length (fed_bytes 128 (held a.b.now a.fill) (take l.j a.m.now)) ≡ l.j =
     length-fed 128 (held b a.fill) (take l.j m) ∙ length-take-le l.j m (omega arith) in (
@@ -38,7 +37,8 @@ pub returns : goal.returns
 returns c =
     let l = c.loop-j in
     let a = c.args in
-    let e : l.j ≡ a.n = omega arith in (
-      ap (λ (k : ℕ). held l.b (a.fill + k)) (sym e) ∙ l.invariant.0 ∙ ap (λ (k : ℕ). fed 128 (held a.b.now a.fill) (take k a.m.now)) e,
-      l.invariant.1 ∙ ap (λ (k : ℕ). put_bytes a.out.now 0 (fed_bytes 128 (held a.b.now a.fill) (take k a.m.now))) e,
+    let e : l.j ≡ length a.m.now = omega arith in
+    let w : take l.j a.m.now ≡ a.m.now = take_all l.j a.m.now (omega arith) in (
+      ap (λ (k : ℕ). held l.b (a.fill + k)) (sym e) ∙ l.invariant.0 ∙ ap (fed 128 (held a.b.now a.fill)) w,
+      l.invariant.1 ∙ ap (λ (m : Bytes). put_bytes a.out.now 0 (fed_bytes 128 (held a.b.now a.fill) m)) w,
     )
