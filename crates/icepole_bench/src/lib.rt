@@ -16,5 +16,6 @@ pub extern "C" fn bench_verify128(
 ) -> u32
     ensures { result ≡ open_refusal Variant.Icepole128 key.now nonce.now (first.now ++ second.now) sealed.now true }
 {
-    icepole::verify(Variant::Icepole128, key, nonce, first, second, sealed).refusal
+    let verified = icepole::verify(Variant::Icepole128, key, nonce, first, second, sealed);
+    refusals::number_of(&verified)
 }

@@ -2,7 +2,7 @@
 -- Assumes nothing.
 use mathlib.Core.Path.{◌≡◌, refl, sym, ap, ap₂, ◌∙◌}
 use mathlib.Core.Bool.{Bool, true, false, ◌&&◌}
-use mathlib.Core.List.{[], ◌++◌}
+use mathlib.Core.List.{◌++◌}
 use Prim.Native.Nat.{ℕ, ◌+◌, ◌-◌, ◌≤◌, ◌<◌}
 use native.Mathlib.Omega.{arith}
 use native.Mathlib.Nat.{sub-zero}
@@ -10,10 +10,14 @@ use borrow.Author.Tests.{ne_eqb, le-leb, lt-leb}
 use lib.ListN.{length, take}
 use lib.Seq.{length-take-le}
 use Rattle.bytes_le.specs.Bytes.{Bytes, le, put_bytes}
-use Rattle.icepole.specs.Answers.{fits_output, open_answer, open_number, open_output, opened_answer, seal_answer, seal_refusal}
+use Rattle.std.specs.Prelude.{Result, Ok, Err}
+use Rattle.refusals.specs.declared.Refusal.{Refusal}
+use Rattle.refusals.specs.Numbers.{number, number_of, mark_of}
+use Rattle.strips.proofs.Answers.{nonzero}
+use Rattle.icepole.specs.Answers.{fits_output, open_answer, open_number, open_output, opened_as, seal_answer, seal_refusal}
 use Rattle.icepole.specs.Variants.{sizes}
-use Rattle.icepole.specs.declared.Opened.{Opened}
-use Rattle.icepole.specs.declared.Sealed.{Sealed}
+use Rattle.icepole.specs.Answers.{Opened}
+use Rattle.icepole.specs.Answers.{Sealed}
 use Rattle.blocks.specs.declared.Sizes.{Sizes}
 use Rattle.icepole.specs.declared.Variant.{Variant}
 use Rattle.bytes_le.proofs.Laws.{put-put}
@@ -37,20 +41,21 @@ told r n t l hn h z t₁ t₂ e₁ e₂ =
     ∙ put-put t 0 (le 8 r.length) (take n r.secret) 8 refl (omega arith)
     ∙ sym (simp z)
 
--- ---- the further slice t is too short
-pub short-call : (v : Variant) (k n f g c o t : Bytes) (num : ℕ) → length t < 8 + (sizes v).secret
-    → num ≡ open_number (sizes v) (length k) (length n) (length f + length g) (length c) false true
-    → OpenContract v k n (f ++ g) c o t num o t
+-- ---- the further slice t is too short: r is what the lengths alone answer, where what is lent is too short for what opening puts
+pub short-call : {A : Type 0} (v : Variant) (k n f g c o t : Bytes) (r : Result A Refusal) → length t < 8 + (sizes v).secret
+    → number_of r ≡ open_number (sizes v) (length k) (length n) (length f + length g) (length c) false true → mark_of r ≡ 0
+    → OpenContract v k n (f ++ g) c o t (number_of r) o t
 unfolding open_call_info
-short-call v k n f g c o t num h e =
+short-call v k n f g c o t (Ok x) h e em =
+    absurd (false-true (open-fits (sizes v) (length k) (length n) (length f + length g) (length c) false true (sym e)).room)
+short-call v k n f g c o t (Err x) h e em =
     let b : fits_both v k n (f ++ g) c o t ≡ false = ap (λ (b : Bool). b && fits_output v c o) (lt-leb (8 + (sizes v).secret) (length t) h) in
-    let some : num ≡ 0 → ⊥ =
-    λ z. false-true (open-fits (sizes v) (length k) (length n) (length f + length g) (length c) false true (sym e ∙ z)).room in
-    let x = open-refused v (sizes v) refl k n f g c false num e some (opened_answer num 0 []) refl in
-    let a : opened_answer num 0 [] ≡ open_call_answer v k n (f ++ g) c o t = x ∙ ap (open_answer v k n (f ++ g) c) (sym b) in (
+    let some = nonzero x in
+    let y = open-refused v k n f g c false x e em in
+    let a : opened_as (Err x) ≡ open_call_answer v k n (f ++ g) c o t = y ∙ ap (open_answer v k n (f ++ g) c) (sym b) in (
       ap (λ (r : Opened). r.refusal) a,
-      open_stays v k n (f ++ g) c false (opened_answer num 0 []) x some o ∙ ap (λ (b : Bool). open_output v k n (f ++ g) c b o) (sym b),
-      sym (simp (ne_eqb num 0 some)) ∙ ap (λ (r : Opened). info_after r (sizes v).secret t) a,
+      open_stays v k n (f ++ g) c false (opened_as (Err x)) y some o ∙ ap (λ (b : Bool). open_output v k n (f ++ g) c b o) (sym b),
+      sym (simp (ne_eqb (number x) 0 some)) ∙ ap (λ (r : Opened). info_after r (sizes v).secret t) a,
     )
 
 -- ---- it is long enough: r is what opening answered, o' the output after it, and x and t' are what the call returns and leaves in the further slice. q is what

@@ -13,7 +13,7 @@ use Rattle.bytes_le.specs.Bytes.{Bytes, put_bytes, le, unle, le_at}
 use Rattle.bytes_le.proofs.Laws.{put_front, put-put}
 use Rattle.icepole.specs.Answers.{unless}
 use Rattle.strips.specs.declared.StripState.{StripState}
-use Rattle.strips.specs.declared.StripAnswer.{StripAnswer}
+use Rattle.strips.specs.Answers.{StripAnswer}
 use Rattle.strips.specs.Machine.{held, fed, fed_bytes, fill_of}
 use Rattle.strips.specs.Answers.{start_answer, start_output, start_refusal, strip_answer, strip_number, strip_output, strip_refusal, end_answer, end_output, end_refusal, block}
 use Rattle.strips.proofs.Answers as answers
@@ -117,7 +117,7 @@ module _ (st m o : Bytes) (h : strip_state_length ≤ length st) (n : ℕ) (en :
       let fb = eb ∙ answers.changed _ _ _ f in
       let ez = eqb-true (get_or st 168 0) 0 (not-false (eqb (get_or st 168 0) 0) (strip-fits _ _ _ _ (sym is_number ∙ f)).open') in
       let lb = ap length fb ∙ length-fed-state block m (held (take 160 st) (fill_of block n)) (length-take-le 160 st (omega arith)) in
-      let a = answers.strip-done s m o num is_number f b o' (fb ∙ ap (λ (k : ℕ). (fed block (held (take 160 st) k) m).state) ec)
+      let a = answers.strip-done s m o (sym f ∙ is_number) b o' (fb ∙ ap (λ (k : ℕ). (fed block (held (take 160 st) k) m).state) ec)
       (eo ∙ answers.changed _ _ _ f ∙ ap (λ (k : ℕ). put_bytes o 0 (fed_bytes block (held (take 160 st) k) m)) ec) in
       done st o (strip_answer s m o) (strip_output s m o) h _ a.0 o' a.1 refl
       st₂ (state-fed st b st₁ st₂ (n + length m) h lb ez e₁ e₂ ∙ ap (λ (k : ℕ). put_bytes st 0 (b ++ (le 8 (k + length m) ++ le 1 0))) is-count)

@@ -4,7 +4,7 @@
 -- Assumes nothing.
 use Rattle.std.specs.Prelude.{◌≡◌, Bool, ◌&&◌, ◌++◌, ℕ, ◌+◌, leb, length, take}
 use Rattle.bytes_le.specs.Bytes.{Bytes, put_bytes, le}
-use Rattle.icepole.specs.declared.Opened.{Opened}
+use Rattle.icepole.specs.Answers.{Opened}
 use Rattle.icepole.specs.declared.Variant.{Variant}
 use Rattle.icepole.specs.Variants.{sizes}
 use Rattle.icepole.specs.Answers.{seal_refusal, seal_output, open_answer, open_output, fits_output, unless}

@@ -1,18 +1,20 @@
-// The calls of the camera's main firmware, which is in C: sealing, opening and opening in place, one of each for each variant, and strips of 128. Each returns the
-// refusal number, 0 when done. include/icepole.h declares them.
+// The calls of the camera's main firmware, which is in C: sealing, opening and opening in place under a variant, and strips of 128. Each returns the refusal
+// number, 0 when done. The crate `icepole_lib` gives them to C under the names of include/icepole.h, sealing and opening once for each variant.
 #![tactic(auto)]
 
 ghost use Rattle.std.specs.Prelude.{◌≡◌, ◌++◌, ◌+◌, ◌≤◌, length};
 ghost use Rattle.bytes_le.specs.Bytes.{put_bytes};
 ghost use Rattle.blocks.specs.Lengths.{max_secret};
+ghost use Rattle.icepole.specs.Answers.{opened_as};
 ghost use Rattle.icepole_c.specs.Calls.{info_after, SealContract, OpenContract, InPlaceContract};
-ghost use Rattle.icepole_c.specs.Strips.{strip_state_length, flag, strip_state_bytes, strip_state_in, StartContract, StripContract, EndContract};
+ghost use Rattle.icepole_c.specs.Strips.{strip_state_length, strip_state_bytes, strip_state_in, StartContract, StripContract, EndContract};
 
-use icepole::{OUTPUT_TOO_SHORT, Opened, Variant};
+use icepole::{Released, Variant};
+use refusals::Refusal;
 use state_bytes::STATE_BYTES;
 use strips::StripState;
 
-fn seal_call(
+pub fn seal(
     v: Variant,
     key: &[u8],
     nonce: &[u8],
@@ -25,29 +27,26 @@ fn seal_call(
     ensures { SealContract v key.now nonce.now secret.now
         (first.now ++ second.now) message.now out.old result out.new }
 {
-    icepole::seal(v, key, nonce, secret, first, second, message, out).refusal
+    let sealed = icepole::seal(v, key, nonce, secret, first, second, message, out);
+    refusals::number_of(&sealed)
 }
 
 // Where the secret number stands in what opening puts into info, behind the message's length.
 const SECRET_AT: usize = 8;
 
-// What opening answered, r, for C: where its number is 0, its length and its secret number, n bytes, are put at the front of info. Returns the number.
-fn put_info(r: Opened, n: usize, info: &mut [u8]) -> u32
+// What opening answered, for C: where it was not turned down, the message's length and the secret number, n bytes, are put at the front of info.
+fn put_info(opened: &Result<Released, Refusal>, n: usize, info: &mut [u8])
     requires { (n ≤ max_secret) × (8 + n ≤ length info.old) }
-    ensures { (result ≡ r.refusal) × (info.new ≡ info_after r n info.old) }
+    ensures { info.new ≡ info_after (opened_as opened.now) n info.old }
 {
-    let number = r.refusal;
-    if number != 0 {
-        return number;
+    if let Ok(released) = opened {
+        bytes_le::store_u64(info, 0, released.length as u64);
+        bytes_le::put_bytes(info, SECRET_AT, &released.secret[0..n]);
     }
-    let count = r.length as u64;
-    let s = r.secret;
-    bytes_le::store_u64(info, 0, count);
-    bytes_le::put_bytes(info, SECRET_AT, &s[0..n]);
-    0
 }
 
-fn open_call(
+// `open` and `open_in_place` stay two: one function over a closure that opens would have to say of the closure what their contracts say, and is no shorter.
+pub fn open(
     v: Variant,
     key: &[u8],
     nonce: &[u8],
@@ -60,10 +59,9 @@ fn open_call(
     ensures { OpenContract v key.now nonce.now
         (first.now ++ second.now) sealed.now out.old info.old result out.new info.new }
 {
-    let q = icepole::sizes_of(v);
-    let n = q.secret;
+    let n = icepole::sizes_of(v).secret;
     if info.len() < SECRET_AT + n {
-        return icepole::open_number(
+        return refusals::number_of(&icepole::may_open(
             v,
             key.len(),
             nonce.len(),
@@ -71,13 +69,14 @@ fn open_call(
             second.len(),
             sealed.len(),
             false,
-        );
+        ));
     }
-    let r = icepole::open_message(v, key, nonce, first, second, sealed, out);
-    put_info(r, n, info)
+    let opened = icepole::open_message(v, key, nonce, first, second, sealed, out);
+    put_info(&opened, n, info);
+    refusals::number_of(&opened)
 }
 
-fn open_in_place_call(
+pub fn open_in_place(
     v: Variant,
     key: &[u8],
     nonce: &[u8],
@@ -89,10 +88,9 @@ fn open_in_place_call(
     ensures { InPlaceContract v key.now nonce.now
         (first.now ++ second.now) buffer.old info.old result buffer.new info.new }
 {
-    let q = icepole::sizes_of(v);
-    let secret_length = q.secret;
+    let secret_length = icepole::sizes_of(v).secret;
     if info.len() < SECRET_AT + secret_length {
-        return icepole::open_number(
+        return refusals::number_of(&icepole::may_open(
             v,
             key.len(),
             nonce.len(),
@@ -100,212 +98,11 @@ fn open_in_place_call(
             second.len(),
             buffer.len(),
             false,
-        );
+        ));
     }
-    let r = icepole::open_in_place(v, key, nonce, first, second, buffer);
-    put_info(r, secret_length, info)
-}
-
-pub fn icepole128_seal(
-    key: &[u8],
-    nonce: &[u8],
-    secret: &[u8],
-    first: &[u8],
-    second: &[u8],
-    message: &[u8],
-    out: &mut [u8],
-) -> u32
-    ensures { SealContract Variant.Icepole128 key.now nonce.now secret.now
-        (first.now ++ second.now) message.now out.old result out.new }
-{
-    seal_call(
-        Variant::Icepole128,
-        key,
-        nonce,
-        secret,
-        first,
-        second,
-        message,
-        out,
-    )
-}
-
-pub fn icepole128_open(
-    key: &[u8],
-    nonce: &[u8],
-    first: &[u8],
-    second: &[u8],
-    sealed: &[u8],
-    out: &mut [u8],
-    info: &mut [u8],
-) -> u32
-    ensures { OpenContract Variant.Icepole128 key.now nonce.now
-        (first.now ++ second.now) sealed.now out.old info.old result out.new info.new }
-{
-    open_call(
-        Variant::Icepole128,
-        key,
-        nonce,
-        first,
-        second,
-        sealed,
-        out,
-        info,
-    )
-}
-
-pub fn icepole128_open_in_place(
-    key: &[u8],
-    nonce: &[u8],
-    first: &[u8],
-    second: &[u8],
-    buffer: &mut [u8],
-    info: &mut [u8],
-) -> u32
-    ensures { InPlaceContract Variant.Icepole128 key.now nonce.now
-        (first.now ++ second.now) buffer.old info.old result buffer.new info.new }
-{
-    open_in_place_call(Variant::Icepole128, key, nonce, first, second, buffer, info)
-}
-
-pub fn icepole128a_seal(
-    key: &[u8],
-    nonce: &[u8],
-    secret: &[u8],
-    first: &[u8],
-    second: &[u8],
-    message: &[u8],
-    out: &mut [u8],
-) -> u32
-    ensures { SealContract Variant.Icepole128a key.now nonce.now secret.now
-        (first.now ++ second.now) message.now out.old result out.new }
-{
-    seal_call(
-        Variant::Icepole128a,
-        key,
-        nonce,
-        secret,
-        first,
-        second,
-        message,
-        out,
-    )
-}
-
-pub fn icepole128a_open(
-    key: &[u8],
-    nonce: &[u8],
-    first: &[u8],
-    second: &[u8],
-    sealed: &[u8],
-    out: &mut [u8],
-    info: &mut [u8],
-) -> u32
-    ensures { OpenContract Variant.Icepole128a key.now nonce.now
-        (first.now ++ second.now) sealed.now out.old info.old result out.new info.new }
-{
-    open_call(
-        Variant::Icepole128a,
-        key,
-        nonce,
-        first,
-        second,
-        sealed,
-        out,
-        info,
-    )
-}
-
-pub fn icepole128a_open_in_place(
-    key: &[u8],
-    nonce: &[u8],
-    first: &[u8],
-    second: &[u8],
-    buffer: &mut [u8],
-    info: &mut [u8],
-) -> u32
-    ensures { InPlaceContract Variant.Icepole128a key.now nonce.now
-        (first.now ++ second.now) buffer.old info.old result buffer.new info.new }
-{
-    open_in_place_call(
-        Variant::Icepole128a,
-        key,
-        nonce,
-        first,
-        second,
-        buffer,
-        info,
-    )
-}
-
-pub fn icepole256a_seal(
-    key: &[u8],
-    nonce: &[u8],
-    secret: &[u8],
-    first: &[u8],
-    second: &[u8],
-    message: &[u8],
-    out: &mut [u8],
-) -> u32
-    ensures { SealContract Variant.Icepole256a key.now nonce.now secret.now
-        (first.now ++ second.now) message.now out.old result out.new }
-{
-    seal_call(
-        Variant::Icepole256a,
-        key,
-        nonce,
-        secret,
-        first,
-        second,
-        message,
-        out,
-    )
-}
-
-pub fn icepole256a_open(
-    key: &[u8],
-    nonce: &[u8],
-    first: &[u8],
-    second: &[u8],
-    sealed: &[u8],
-    out: &mut [u8],
-    info: &mut [u8],
-) -> u32
-    ensures { OpenContract Variant.Icepole256a key.now nonce.now
-        (first.now ++ second.now) sealed.now out.old info.old result out.new info.new }
-{
-    open_call(
-        Variant::Icepole256a,
-        key,
-        nonce,
-        first,
-        second,
-        sealed,
-        out,
-        info,
-    )
-}
-
-pub fn icepole256a_open_in_place(
-    key: &[u8],
-    nonce: &[u8],
-    first: &[u8],
-    second: &[u8],
-    buffer: &mut [u8],
-    info: &mut [u8],
-) -> u32
-    ensures { InPlaceContract Variant.Icepole256a key.now nonce.now
-        (first.now ++ second.now) buffer.old info.old result buffer.new info.new }
-{
-    open_in_place_call(
-        Variant::Icepole256a,
-        key,
-        nonce,
-        first,
-        second,
-        buffer,
-        info,
-    )
+    let opened = icepole::open_in_place(v, key, nonce, first, second, buffer);
+    put_info(&opened, secret_length, info);
+    refusals::number_of(&opened)
 }
 
 // ---- strips of 128
@@ -316,28 +113,19 @@ const FINISHED_AT: usize = COUNT_AT + 8;
 
 const STRIP_STATE_LENGTH: usize = FINISHED_AT + 1;
 
-// The strip state that stands at the front of b.
+// The strip state that stands at the front of b. No `From`: where it stands is the C interface's, and the type is another crate's.
 fn strip_state_in(b: &[u8]) -> StripState
     requires { strip_state_length ≤ length b.now }
     ensures { result ≡ strip_state_in b.now }
 {
     let mut bytes = [0u8; STATE_BYTES];
-    bytes_le::put_bytes(&mut bytes, 0, &b[0..STATE_BYTES]);
+    bytes.copy_from_slice(&b[0..STATE_BYTES]);
     let count = bytes_le::load_le(b, COUNT_AT, 8);
     StripState {
         bytes,
         count: count as usize,
         finished: b[FINISHED_AT] != 0,
     }
-}
-
-fn flag_of(b: bool) -> u64
-    ensures { result ≡ flag b }
-{
-    if b {
-        return 1;
-    }
-    0
 }
 
 fn put_strip_state(s: StripState, b: &mut [u8])
@@ -347,10 +135,10 @@ fn put_strip_state(s: StripState, b: &mut [u8])
     let bytes = s.bytes;
     let i = bytes_le::put_bytes(b, 0, &bytes);
     let j = bytes_le::store_le(b, i, 8, s.count as u64);
-    bytes_le::store_le(b, j, 1, flag_of(s.finished));
+    bytes_le::store_le(b, j, 1, u64::from(s.finished));
 }
 
-pub fn icepole128_start(
+pub fn start(
     key: &[u8],
     nonce: &[u8],
     secret: &[u8],
@@ -363,7 +151,7 @@ pub fn icepole128_start(
         (first.now ++ second.now) out.old state.old result out.new state.new }
 {
     if state.len() < STRIP_STATE_LENGTH {
-        let number = strips::start_number(
+        let may = strips::may_start(
             key.len(),
             nonce.len(),
             secret.len(),
@@ -371,44 +159,47 @@ pub fn icepole128_start(
             second.len(),
             out.len(),
         );
-        if number != 0 {
-            return number;
+        if let Err(refusal) = may {
+            return refusal.number();
         }
-        return OUTPUT_TOO_SHORT;
+        return Refusal::OutputTooShort.number();
     }
-    let r = strips::start(key, nonce, secret, first, second, out);
-    let next = r.state;
-    put_strip_state(next, state);
-    r.refusal
+    let started = strips::start(key, nonce, secret, first, second, out);
+    put_strip_state(started.state, state);
+    refusals::number_of(&started.written)
 }
 
-pub fn icepole128_strip(state: &mut [u8], message: &[u8], out: &mut [u8]) -> u32
+pub fn strip(state: &mut [u8], message: &[u8], out: &mut [u8]) -> u32
     ensures { StripContract state.old message.now out.old result state.new out.new }
 {
     if state.len() < STRIP_STATE_LENGTH {
-        return OUTPUT_TOO_SHORT;
+        return Refusal::OutputTooShort.number();
     }
     let count = bytes_le::load_u64(state, COUNT_AT) as usize;
     let finished = state[FINISHED_AT] != 0;
-    let number = strips::strip_in(&mut state[0..STATE_BYTES], count, finished, message, out);
-    if number != 0 {
-        return number;
+    let Some(bytes) = state.first_chunk_mut::<STATE_BYTES>() else {
+        return Refusal::OutputTooShort.number();
+    };
+    let fed = strips::strip_in(bytes, count, finished, message, out);
+    if let Err(refusal) = fed {
+        return refusal.number();
     }
     bytes_le::store_u64(state, COUNT_AT, (count + message.len()) as u64);
     0
 }
 
-pub fn icepole128_end(state: &mut [u8], out: &mut [u8]) -> u32
+pub fn end(state: &mut [u8], out: &mut [u8]) -> u32
     ensures { EndContract state.old out.old result state.new out.new }
 {
     if state.len() < STRIP_STATE_LENGTH {
-        return OUTPUT_TOO_SHORT;
+        return Refusal::OutputTooShort.number();
     }
     let ended = strips::end(strip_state_in(state), out);
-    if ended.refusal != 0 {
-        return ended.refusal;
+    match ended.written {
+        Ok(_) => {
+            put_strip_state(ended.state, state);
+            0
+        }
+        Err(refusal) => refusal.number(),
     }
-    let last = ended.state;
-    put_strip_state(last, state);
-    0
 }

@@ -1,11 +1,12 @@
 // The static library libicepole_c.a for C: the calls of include/icepole.h, each under its name and with the contract that it has in the crate icepole_c.
+// Sealing and opening are there once for each variant: C calls them by these names.
 #![tactic(auto)]
 
 ghost use Rattle.std.specs.Prelude.{◌++◌};
 ghost use Rattle.icepole_c.specs.Calls.{SealContract, OpenContract, InPlaceContract};
 ghost use Rattle.icepole_c.specs.Strips.{StartContract, StripContract, EndContract};
 
-use icepole::Variant;
+use icepole::Variant::{self, Icepole128, Icepole128a, Icepole256a};
 
 #[unsafe(no_mangle)]
 pub extern "C" fn icepole128_seal(
@@ -20,7 +21,7 @@ pub extern "C" fn icepole128_seal(
     ensures { SealContract Variant.Icepole128 key.now nonce.now secret.now
         (first.now ++ second.now) message.now out.old result out.new }
 {
-    icepole_c::icepole128_seal(key, nonce, secret, first, second, message, out)
+    icepole_c::seal(Icepole128, key, nonce, secret, first, second, message, out)
 }
 
 #[unsafe(no_mangle)]
@@ -36,7 +37,7 @@ pub extern "C" fn icepole128_open(
     ensures { OpenContract Variant.Icepole128 key.now nonce.now
         (first.now ++ second.now) sealed.now out.old info.old result out.new info.new }
 {
-    icepole_c::icepole128_open(key, nonce, first, second, sealed, out, info)
+    icepole_c::open(Icepole128, key, nonce, first, second, sealed, out, info)
 }
 
 #[unsafe(no_mangle)]
@@ -51,7 +52,7 @@ pub extern "C" fn icepole128_open_in_place(
     ensures { InPlaceContract Variant.Icepole128 key.now nonce.now
         (first.now ++ second.now) buffer.old info.old result buffer.new info.new }
 {
-    icepole_c::icepole128_open_in_place(key, nonce, first, second, buffer, info)
+    icepole_c::open_in_place(Variant::Icepole128, key, nonce, first, second, buffer, info)
 }
 
 #[unsafe(no_mangle)]
@@ -67,7 +68,7 @@ pub extern "C" fn icepole128a_seal(
     ensures { SealContract Variant.Icepole128a key.now nonce.now secret.now
         (first.now ++ second.now) message.now out.old result out.new }
 {
-    icepole_c::icepole128a_seal(key, nonce, secret, first, second, message, out)
+    icepole_c::seal(Icepole128a, key, nonce, secret, first, second, message, out)
 }
 
 #[unsafe(no_mangle)]
@@ -83,7 +84,7 @@ pub extern "C" fn icepole128a_open(
     ensures { OpenContract Variant.Icepole128a key.now nonce.now
         (first.now ++ second.now) sealed.now out.old info.old result out.new info.new }
 {
-    icepole_c::icepole128a_open(key, nonce, first, second, sealed, out, info)
+    icepole_c::open(Icepole128a, key, nonce, first, second, sealed, out, info)
 }
 
 #[unsafe(no_mangle)]
@@ -98,7 +99,7 @@ pub extern "C" fn icepole128a_open_in_place(
     ensures { InPlaceContract Variant.Icepole128a key.now nonce.now
         (first.now ++ second.now) buffer.old info.old result buffer.new info.new }
 {
-    icepole_c::icepole128a_open_in_place(key, nonce, first, second, buffer, info)
+    icepole_c::open_in_place(Icepole128a, key, nonce, first, second, buffer, info)
 }
 
 #[unsafe(no_mangle)]
@@ -114,7 +115,7 @@ pub extern "C" fn icepole256a_seal(
     ensures { SealContract Variant.Icepole256a key.now nonce.now secret.now
         (first.now ++ second.now) message.now out.old result out.new }
 {
-    icepole_c::icepole256a_seal(key, nonce, secret, first, second, message, out)
+    icepole_c::seal(Icepole256a, key, nonce, secret, first, second, message, out)
 }
 
 #[unsafe(no_mangle)]
@@ -130,7 +131,7 @@ pub extern "C" fn icepole256a_open(
     ensures { OpenContract Variant.Icepole256a key.now nonce.now
         (first.now ++ second.now) sealed.now out.old info.old result out.new info.new }
 {
-    icepole_c::icepole256a_open(key, nonce, first, second, sealed, out, info)
+    icepole_c::open(Icepole256a, key, nonce, first, second, sealed, out, info)
 }
 
 #[unsafe(no_mangle)]
@@ -145,7 +146,7 @@ pub extern "C" fn icepole256a_open_in_place(
     ensures { InPlaceContract Variant.Icepole256a key.now nonce.now
         (first.now ++ second.now) buffer.old info.old result buffer.new info.new }
 {
-    icepole_c::icepole256a_open_in_place(key, nonce, first, second, buffer, info)
+    icepole_c::open_in_place(Icepole256a, key, nonce, first, second, buffer, info)
 }
 
 #[unsafe(no_mangle)]
@@ -161,19 +162,19 @@ pub extern "C" fn icepole128_start(
     ensures { StartContract key.now nonce.now secret.now
         (first.now ++ second.now) out.old state.old result out.new state.new }
 {
-    icepole_c::icepole128_start(key, nonce, secret, first, second, out, state)
+    icepole_c::start(key, nonce, secret, first, second, out, state)
 }
 
 #[unsafe(no_mangle)]
 pub extern "C" fn icepole128_strip(state: &mut [u8], message: &[u8], out: &mut [u8]) -> u32
     ensures { StripContract state.old message.now out.old result state.new out.new }
 {
-    icepole_c::icepole128_strip(state, message, out)
+    icepole_c::strip(state, message, out)
 }
 
 #[unsafe(no_mangle)]
 pub extern "C" fn icepole128_end(state: &mut [u8], out: &mut [u8]) -> u32
     ensures { EndContract state.old out.old result state.new out.new }
 {
-    icepole_c::icepole128_end(state, out)
+    icepole_c::end(state, out)
 }

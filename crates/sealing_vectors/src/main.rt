@@ -86,22 +86,26 @@ fn cut<'a>(run: &'a [u8; RUN], variant: Variant, m: usize, s: usize, a: usize) -
 
 // Whether it was sealed.
 fn seals(c: &Case<'_>, out: &mut [u8]) -> bool {
-    let r = icepole::seal(
+    icepole::seal(
         c.variant, c.key, c.nonce, c.secret, c.first, c.second, c.message, out,
-    );
-    r.refusal == 0
+    )
+    .is_ok()
 }
 
 // Whether opening gives back message and secret number.
 fn opens(c: &Case<'_>, sealed: &[u8]) -> bool {
     let mut out = [0; 256];
-    let r = icepole::open_message(
+    let answer = icepole::open_message(
         c.variant, c.key, c.nonce, c.first, c.second, sealed, &mut out,
     );
-    r.refusal == 0
-        && r.length == c.message.len()
-        && out.starts_with(c.message)
-        && r.secret.starts_with(c.secret)
+    match answer {
+        Ok(released) => {
+            released.length == c.message.len()
+                && out.starts_with(c.message)
+                && released.secret.starts_with(c.secret)
+        }
+        Err(_) => false,
+    }
 }
 
 // Two hex digits for each byte.

@@ -2,10 +2,13 @@
 -- Assumes nothing.
 use mathlib.Core.Path.{◌≡◌, refl, sym, ap, ◌∙◌}
 use mathlib.Core.Bool.{Bool, true, false, ◌||◌}
-use Prim.Native.Nat.{ℕ, ◌+◌, ◌≤◌, ◌<◌}
+use mathlib.Core.Logic.{⊎_elim}
+use Prim.Native.Nat.{ℕ, ◌+◌, ◌≤◌, ◌<◌, min}
 use native.Mathlib.Omega.{arith}
+use Rattle.std.proofs.Math.Nat.{min-eq_left}
 use borrow.Author.Tests.{le-ltb, lt-ltb, ltb-false}
 use lib.Dec.{ltb}
+use Rattle.bits.proofs.Cases.{le-or-lt}
 use Rattle.icepole.specs.Answers.{seal_number}
 use Rattle.blocks.specs.Lengths.{max_length}
 use Rattle.blocks.specs.declared.Sizes.{Sizes}
@@ -18,14 +21,12 @@ seal-room : (q : Sizes) (k n s a m o o' : ℕ) → q.secret + (m + 16) ≤ o →
 unfolding seal_number
 seal-room q k n s a m o o' h h' = rw (le-ltb o (q.secret + (m + 16)) h, le-ltb o' (q.secret + (m + 16)) h') refl
 
--- the code looks at the output, or at no more of it than the secret number takes
-pub start-all : (q : Sizes) (k n s a o room : ℕ) → room ≡ o → seal_number q k n s a 0 (room + 16) ≡ start_number q k n s a o
+-- the code looks at no more of the output than the secret number takes
+pub start-cut : (q : Sizes) (k n s a o : ℕ) → seal_number q k n s a 0 (min o q.secret + 16) ≡ start_number q k n s a o
 unfolding start_number
-start-all q k n s a o room e = ap (λ (r : ℕ). seal_number q k n s a 0 (r + 16)) e
-
-pub start-cut : (q : Sizes) (k n s a o room : ℕ) → q.secret ≤ o → room ≡ q.secret → seal_number q k n s a 0 (room + 16) ≡ start_number q k n s a o
-unfolding start_number
-start-cut q k n s a o room h e = seal-room q k n s a 0 (room + 16) (o + 16) (omega arith) (omega arith)
+start-cut q k n s a o =
+    ⊎_elim (λ h. seal-room q k n s a 0 (min o q.secret + 16) (o + 16) (omega arith) (omega arith))
+    (λ h. ap (λ (r : ℕ). seal_number q k n s a 0 (r + 16)) (min-eq_left {n = o} {m = q.secret} (omega arith))) (le-or-lt q.secret o)
 
 pub start_fits : (q : Sizes) (k n s a o : ℕ) → start_number q k n s a o ≡ 0 → SealFits q k n s a 0 (o + 16)
 unfolding start_number

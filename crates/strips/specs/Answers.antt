@@ -1,6 +1,8 @@
 -- What start, strip and end answer and leave in the lent output, for good and bad calls (01, "Afterwards" and "Turned down, by example"). ICEPOLE-128.
 -- Assumes nothing.
-use Rattle.std.specs.Prelude.{Bool, true, false, ◌||◌, [], ◌∷◌, ℕ, ◌+◌, ltb, length, replicate}
+use Rattle.std.specs.Prelude.{Bool, true, false, ◌||◌, [], ◌∷◌, ℕ, ◌+◌, ltb, length, replicate, Result}
+use Rattle.refusals.specs.declared.Refusal.{Refusal}
+use Rattle.refusals.specs.Numbers.{number_of, mark_of, value_or}
 use Rattle.bytes_le.specs.Bytes.{Bytes, put_bytes}
 use Rattle.state_bytes.specs.StateBytes.{state_length}
 use Rattle.blocks.specs.declared.Sizes.{Sizes}
@@ -10,7 +12,7 @@ use Rattle.blocks.specs.Lengths.{tag_length, max_length}
 use Rattle.blocks.specs.Sealing.{◌⊕₈◌, keyed, ready}
 use Rattle.icepole.specs.Answers.{◌when◌, refusal, seal_number, unless, given}
 use Rattle.strips.specs.declared.StripState.{StripState}
-use Rattle.strips.specs.declared.StripAnswer.{StripAnswer}
+use Rattle.strips.specs.declared.StripOutcome.{StripOutcome}
 use Rattle.strips.specs.Machine.{Held, held, fed, fed_bytes, fill_of, ended}
 
 abbrev pub block : ℕ
@@ -34,9 +36,22 @@ strip_number finished count m o =
 unfoldable pub end_number : Bool → ℕ → ℕ → ℕ
 end_number finished count o = refusal ((14 when (finished || ltb max_length count)) ∷ (5 when ltb o tag_length) ∷ [])
 
--- ---- answers: the state that a call leaves and the count of bytes written, or the state it was given and zeros
+-- ---- answers: a refusal number, 0 when done, and its mark; the count of bytes written and the state that a call leaves, or 0 and the state it was given
+pub record StripAnswer : Type 0 where
+  pub refusal : ℕ
+  pub mark : ℕ
+  pub count : ℕ
+  pub state : StripState
+
 abbrev pub answered : ℕ → StripState → StripState → ℕ → StripAnswer
 answered num was is count = record { refusal = num; mark = 0; count = given num count; state = unless num was is }
+
+-- what the calls return, as such an answer
+abbrev pub call_as : Result ℕ Refusal → StripState → StripAnswer
+call_as r s = record { refusal = number_of r; mark = mark_of r; count = value_or (λ n. n) 0 r; state = s }
+
+abbrev pub answered_as : StripOutcome → StripAnswer
+answered_as o = call_as o.written o.state
 
 -- ---- start
 -- what a start that is turned down returns

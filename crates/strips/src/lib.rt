@@ -2,60 +2,59 @@
 // sealing.
 #![tactic(auto)]
 
-ghost use Rattle.std.specs.Prelude.{◌≡◌, ◌++◌, ◌+◌, ◌≤◌, length, take, drop};
+ghost use Rattle.std.specs.Prelude.{◌≡◌, ◌++◌, ◌+◌, ◌≤◌, length, drop};
+ghost use Rattle.refusals.specs.Numbers.{number_of, mark_of};
 ghost use Rattle.bytes_le.specs.Bytes.{put_bytes};
 ghost use Rattle.icepole.specs.declared.Variant.TheVariants.{Icepole128};
 ghost use Rattle.icepole.specs.Answers.{unless};
 ghost use Rattle.icepole.specs.Variants.{sizes};
-ghost use Rattle.state_bytes.specs.StateBytes.{state_length, bytes_of};
+ghost use Rattle.state_bytes.specs.StateBytes.{bytes_of};
 ghost use Rattle.strips.specs.Machine.{held, fed, fed_bytes, fill_of};
-ghost use Rattle.strips.specs.Answers.{block, start_number, strip_number, end_number, start_answer, start_output, strip_answer, strip_output, end_answer, end_output};
+ghost use Rattle.strips.specs.Answers.{block, start_number, strip_number, end_number, call_as, answered_as, not_started, start_answer, start_output, strip_answer, strip_output, end_answer, end_output};
 
 use blocks::{BLOCK_BYTES, BLOCK_WORDS};
-use icepole::{DATA_TOO_LONG, MAX_LENGTH, OUTPUT_TOO_SHORT, SECRET_BYTES, TAG_BYTES, Variant};
+use icepole::{MAX_LENGTH, SECRET_BYTES, TAG_BYTES, Variant};
+use refusals::Refusal;
 use state_bytes::STATE_BYTES;
-
-// Strip state finished, or its count too large (01, "Turned down, by example").
-pub const STRIP_STATE: u32 = 14;
 
 type State = [[u64; 5]; 4];
 
-// Between two strips: the state's bytes, with the block that waits xored in, and how many bytes of the message came. It may be made by anybody.
+// A state's bytes.
+type StateBytes = [u8; STATE_BYTES];
+
+// Between two strips: the state's bytes, with the block that waits xored in, and how many bytes of the message came. It may be made by anybody. The end marks it
+// finished (01, "Afterwards") and leaves the count, so that the mark is a field: the theorems of StripLists (`claims`) speak of both.
 #[derive(Clone, Copy)]
 pub struct StripState {
-    pub bytes: [u8; STATE_BYTES],
+    pub bytes: StateBytes,
     pub count: usize,
     pub finished: bool,
 }
 
-// What each call answers: a refusal number with its mark, or the count of bytes written and the state for the next call. A call turned down returns the state
-// it was given; a start, a finished one.
+// What each call answers: the count of bytes written, and the state for the next call. A call turned down returns the state it was given; a start, a finished
+// one.
 #[derive(Clone, Copy)]
-pub struct StripAnswer {
-    pub refusal: u32,
-    pub mark: u32,
-    pub count: usize,
+pub struct StripOutcome {
+    pub written: Result<usize, Refusal>,
     pub state: StripState,
 }
 
-// ---- the numbers, from the lengths of what is lent
+// ---- whether a call is turned down, from the lengths of what is lent
 // A start is turned down as sealing no message is, but needs no room for the tag. An output longer than the secret number is as good as one of that length, to
 // which the tag's can be added without wrapping.
-pub fn start_number(
+pub fn may_start(
     key: usize,
     nonce: usize,
     secret: usize,
     first: usize,
     second: usize,
     out: usize,
-) -> u32
-    ensures { result ≡ start_number (sizes Icepole128) key nonce secret (first + second) out }
+) -> Result<(), Refusal>
+    ensures number { number_of result ≡ start_number (sizes Icepole128) key nonce secret (first + second) out }
+    ensures mark { mark_of result ≡ 0 }
 {
-    let mut room = SECRET_BYTES;
-    if out < room {
-        room = out;
-    }
-    icepole::seal_number(
+    let room = out.min(SECRET_BYTES);
+    icepole::may_seal(
         Variant::Icepole128,
         key,
         nonce,
@@ -67,37 +66,39 @@ pub fn start_number(
     )
 }
 
-fn strip_number(finished: bool, count: usize, message: usize, out: usize) -> u32
-    ensures { result ≡ strip_number finished count message out }
+fn may_strip(finished: bool, count: usize, message: usize, out: usize) -> Result<(), Refusal>
+    ensures number { number_of result ≡ strip_number finished count message out }
+    ensures mark { mark_of result ≡ 0 }
 {
     if finished {
-        return STRIP_STATE;
+        return Err(Refusal::StripState);
     }
     if count > MAX_LENGTH {
-        return STRIP_STATE;
+        return Err(Refusal::StripState);
     }
     if message > MAX_LENGTH - count {
-        return DATA_TOO_LONG;
+        return Err(Refusal::DataTooLong);
     }
     if out < message {
-        return OUTPUT_TOO_SHORT;
+        return Err(Refusal::OutputTooShort);
     }
-    0
+    Ok(())
 }
 
-fn end_number(finished: bool, count: usize, out: usize) -> u32
-    ensures { result ≡ end_number finished count out }
+fn may_end(finished: bool, count: usize, out: usize) -> Result<(), Refusal>
+    ensures number { number_of result ≡ end_number finished count out }
+    ensures mark { mark_of result ≡ 0 }
 {
     if finished {
-        return STRIP_STATE;
+        return Err(Refusal::StripState);
     }
     if count > MAX_LENGTH {
-        return STRIP_STATE;
+        return Err(Refusal::StripState);
     }
     if out < TAG_BYTES {
-        return OUTPUT_TOO_SHORT;
+        return Err(Refusal::OutputTooShort);
     }
-    0
+    Ok(())
 }
 
 // ---- the bytes
@@ -111,24 +112,22 @@ fn fill_of(count: usize) -> usize
     (count - 1) % BLOCK_BYTES + 1
 }
 
-// Seals the first n bytes of m within the block that waits, into out at its front. b has the state's bytes.
-fn feed_block(b: &mut [u8], fill: usize, m: &[u8], n: usize, out: &mut [u8])
-    requires { (length b.old ≡ state_length) × (fill + n ≤ block) × (n ≤ length m.now) × (n ≤ length out.old) }
-    ensures { (held b.new (fill + n) ≡ fed block (held b.old fill) (take n m.now))
-        × (out.new ≡ put_bytes out.old 0 (fed_bytes block (held b.old fill) (take n m.now))) }
+// Seals m within the block that waits, into out at its front.
+fn feed_block(b: &mut StateBytes, fill: usize, m: &[u8], out: &mut [u8])
+    requires { (fill + length m.now ≤ block) × (length m.now ≤ length out.old) }
+    ensures { (held b.new (fill + length m.now) ≡ fed block (held b.old fill) m.now)
+        × (out.new ≡ put_bytes out.old 0 (fed_bytes block (held b.old fill) m.now)) }
 {
-    let mut j: usize = 0;
-    while j < n {
-        let c = b[fill + j] ^ m[j];
+    for (j, x) in m.iter().enumerate() {
+        let c = b[fill + j] ^ x;
         b[fill + j] = c;
         out[j] = c;
-        j += 1;
     }
 }
 
 // Seals the bytes of m from index at on, at most a block, where one begins. The block waits: b gets the state's bytes with it.
-fn feed_last(s: &mut State, m: &[u8], at: usize, out: &mut [u8], b: &mut [u8])
-    requires { (at ≤ length m.now) × (length m.now ≤ at + block) × (length m.now ≤ length out.old) × (length b.old ≡ state_length) }
+fn feed_last(s: &mut State, m: &[u8], at: usize, out: &mut [u8], b: &mut StateBytes)
+    requires { (at ≤ length m.now) × (length m.now ≤ at + block) × (length m.now ≤ length out.old) }
     ensures { (b.new ≡ (fed block (held (bytes_of s.old) 0) (drop at m.now)).state)
         × (out.new ≡ put_bytes out.old at (fed_bytes block (held (bytes_of s.old) 0) (drop at m.now))) }
 {
@@ -142,12 +141,13 @@ fn feed_last(s: &mut State, m: &[u8], at: usize, out: &mut [u8], b: &mut [u8])
 }
 
 // The same for any number of bytes, word by word.
-fn feed_blocks(s: &mut State, m: &[u8], from: usize, out: &mut [u8], b: &mut [u8])
-    requires { (from ≤ length m.now) × (length m.now ≤ length out.old) × (length b.old ≡ state_length) }
+fn feed_blocks(s: &mut State, m: &[u8], from: usize, out: &mut [u8], b: &mut StateBytes)
+    requires { (from ≤ length m.now) × (length m.now ≤ length out.old) }
     ensures { (b.new ≡ (fed block (held (bytes_of s.old) 0) (drop from m.now)).state)
         × (out.new ≡ put_bytes out.old from (fed_bytes block (held (bytes_of s.old) 0) (drop from m.now))) }
 {
     let mut at = from;
+    // No `for` is plainer: the last block, full or not, waits, and begins at the index that the loop ends with.
     while BLOCK_BYTES < m.len() - at {
         blocks::encrypt_words(s, m, at, BLOCK_WORDS, out, at);
         blocks::finish(s, BLOCK_BYTES, 1);
@@ -157,37 +157,92 @@ fn feed_blocks(s: &mut State, m: &[u8], from: usize, out: &mut [u8], b: &mut [u8
 }
 
 // A strip is sealed into out, at its front; b has the state's bytes, and fill those of the block that waits.
-fn feed(b: &mut [u8], fill: usize, m: &[u8], out: &mut [u8])
-    requires { (length b.old ≡ state_length) × (fill ≤ block) × (length m.now ≤ length out.old) }
+fn feed(b: &mut StateBytes, fill: usize, m: &[u8], out: &mut [u8])
+    requires { (fill ≤ block) × (length m.now ≤ length out.old) }
     ensures { (b.new ≡ (fed block (held b.old fill) m.now).state)
         × (out.new ≡ put_bytes out.old 0 (fed_bytes block (held b.old fill) m.now)) }
 {
     let room = BLOCK_BYTES - fill;
     if m.len() <= room {
-        return feed_block(b, fill, m, m.len(), out);
+        return feed_block(b, fill, m, out);
     }
-    feed_block(b, fill, m, room, out);
+    feed_block(b, fill, &m[..room], out);
     let mut s = [[0u64; 5]; 4];
     state_bytes::load_state(&mut s, b);
     blocks::finish(&mut s, BLOCK_BYTES, 1);
     feed_blocks(&mut s, m, room, out, b)
 }
 
-// A strip in place: its number and, where that is 0, the state's bytes after it in b, and the strip in out at its front, sealed. Internal: `strip` and the C call
-// of a strip are made of it.
-pub fn strip_in(b: &mut [u8], count: usize, finished: bool, message: &[u8], out: &mut [u8]) -> u32
-    requires { length b.old ≡ state_length }
-    ensures { (result ≡ strip_number finished count (length message.now) (length out.old))
-        × (b.new ≡ unless result b.old (fed block (held b.old (fill_of block count)) message.now).state)
-        × (out.new ≡ unless result out.old
-        (put_bytes out.old 0 (fed_bytes block (held b.old (fill_of block count)) message.now))) }
+// A strip in place: where it is not turned down, the state's bytes after it in b, and the strip in out at its front, sealed. Internal: `strip` and the C call of
+// a strip are made of it, and that call has the state in a lent slice, in parts.
+pub fn strip_in(
+    b: &mut StateBytes,
+    count: usize,
+    finished: bool,
+    message: &[u8],
+    out: &mut [u8],
+) -> Result<(), Refusal>
+    ensures number { number_of result ≡ strip_number finished count (length message.now) (length out.old) }
+    ensures mark { mark_of result ≡ 0 }
+    ensures state { b.new ≡ unless (number_of result) b.old (fed block (held b.old (fill_of block count)) message.now).state }
+    ensures output { out.new ≡ unless (number_of result) out.old
+        (put_bytes out.old 0 (fed_bytes block (held b.old (fill_of block count)) message.now)) }
 {
-    let number = strip_number(finished, count, message.len(), out.len());
-    if number != 0 {
-        return number;
-    }
+    may_strip(finished, count, message.len(), out.len())?;
     feed(b, fill_of(count), message, out);
-    0
+    Ok(())
+}
+
+// ---- the calls, with the state lent: the count of bytes written
+fn start_into(
+    key: &[u8],
+    nonce: &[u8],
+    secret: &[u8],
+    first: &[u8],
+    second: &[u8],
+    out: &mut [u8],
+    state: &mut StripState,
+) -> Result<usize, Refusal>
+    requires { state.old ≡ not_started }
+    ensures answer { call_as result state.new ≡ start_answer key.now nonce.now secret.now (first.now ++ second.now) out.old }
+    ensures output { out.new ≡ start_output key.now nonce.now secret.now (first.now ++ second.now) out.old }
+{
+    may_start(
+        key.len(),
+        nonce.len(),
+        secret.len(),
+        first.len(),
+        second.len(),
+        out.len(),
+    )?;
+    let q = icepole::sizes_of(Variant::Icepole128);
+    let mut ready = [[0u64; 5]; 4];
+    blocks::seal_ready(&mut ready, q, key, nonce, secret, first, second, out);
+    state_bytes::store_state(&ready, &mut state.bytes);
+    state.finished = false;
+    Ok(q.secret)
+}
+
+fn strip_into(state: &mut StripState, message: &[u8], out: &mut [u8]) -> Result<usize, Refusal>
+    ensures answer { call_as result state.new ≡ strip_answer state.old message.now out.old }
+    ensures output { out.new ≡ strip_output state.old message.now out.old }
+{
+    strip_in(&mut state.bytes, state.count, state.finished, message, out)?;
+    state.count += message.len();
+    Ok(message.len())
+}
+
+fn end_into(state: &mut StripState, out: &mut [u8]) -> Result<usize, Refusal>
+    ensures answer { call_as result state.new ≡ end_answer state.old out.old }
+    ensures output { out.new ≡ end_output state.old out.old }
+{
+    may_end(state.finished, state.count, out.len())?;
+    let mut last = [[0u64; 5]; 4];
+    state_bytes::load_state(&mut last, &state.bytes);
+    blocks::finish(&mut last, fill_of(state.count), 0);
+    blocks::put_tag(&last, out, 0);
+    state.finished = true;
+    Ok(TAG_BYTES)
 }
 
 // ---- the calls
@@ -199,103 +254,37 @@ pub fn start(
     first: &[u8],
     second: &[u8],
     out: &mut [u8],
-) -> StripAnswer
-    ensures { (result ≡ start_answer key.now nonce.now secret.now (first.now ++ second.now)
-        out.old)
-        × (out.new ≡ start_output key.now nonce.now secret.now (first.now ++ second.now)
-        out.old) }
+) -> StripOutcome
+    ensures answer { answered_as result ≡ start_answer key.now nonce.now secret.now (first.now ++ second.now)
+        out.old }
+    ensures output { out.new ≡ start_output key.now nonce.now secret.now (first.now ++ second.now)
+        out.old }
 {
-    let q = icepole::sizes_of(Variant::Icepole128);
-    let number = start_number(
-        key.len(),
-        nonce.len(),
-        secret.len(),
-        first.len(),
-        second.len(),
-        out.len(),
-    );
-    if number != 0 {
-        return StripAnswer {
-            refusal: number,
-            mark: 0,
-            count: 0,
-            state: StripState {
-                bytes: [0u8; STATE_BYTES],
-                count: 0,
-                finished: true,
-            },
-        };
-    }
-    let mut u = [[0u64; 5]; 4];
-    blocks::seal_ready(&mut u, q, key, nonce, secret, first, second, out);
-    let mut bytes = [0u8; STATE_BYTES];
-    state_bytes::store_state(&u, &mut bytes);
-    StripAnswer {
-        refusal: 0,
-        mark: 0,
-        count: q.secret,
-        state: StripState {
-            bytes,
-            count: 0,
-            finished: false,
-        },
-    }
+    let mut state = StripState {
+        bytes: [0u8; STATE_BYTES],
+        count: 0,
+        finished: true,
+    };
+    let written = start_into(key, nonce, secret, first, second, out, &mut state);
+    StripOutcome { written, state }
 }
 
 // A strip of message, of any length, is written, sealed.
-pub fn strip(s: StripState, message: &[u8], out: &mut [u8]) -> StripAnswer
-    ensures { (result ≡ strip_answer s message.now out.old)
-        × (out.new ≡ strip_output s message.now out.old) }
+pub fn strip(s: StripState, message: &[u8], out: &mut [u8]) -> StripOutcome
+    ensures answer { answered_as result ≡ strip_answer s message.now out.old }
+    ensures output { out.new ≡ strip_output s message.now out.old }
 {
-    let mut bytes = s.bytes;
-    let number = strip_in(&mut bytes, s.count, s.finished, message, out);
-    if number != 0 {
-        return StripAnswer {
-            refusal: number,
-            mark: 0,
-            count: 0,
-            state: s,
-        };
-    }
-    StripAnswer {
-        refusal: 0,
-        mark: 0,
-        count: message.len(),
-        state: StripState {
-            bytes,
-            count: s.count + message.len(),
-            finished: false,
-        },
-    }
+    let mut state = s;
+    let written = strip_into(&mut state, message, out);
+    StripOutcome { written, state }
 }
 
 // The tag is written, and the state is finished.
-pub fn end(s: StripState, out: &mut [u8]) -> StripAnswer
-    ensures { (result ≡ end_answer s out.old) × (out.new ≡ end_output s out.old) }
+pub fn end(s: StripState, out: &mut [u8]) -> StripOutcome
+    ensures answer { answered_as result ≡ end_answer s out.old }
+    ensures output { out.new ≡ end_output s out.old }
 {
-    let number = end_number(s.finished, s.count, out.len());
-    if number != 0 {
-        return StripAnswer {
-            refusal: number,
-            mark: 0,
-            count: 0,
-            state: s,
-        };
-    }
-    let v = s.bytes;
-    let mut last = [[0u64; 5]; 4];
-    state_bytes::load_state(&mut last, &v);
-    blocks::finish(&mut last, fill_of(s.count), 0);
-    blocks::put_tag(&last, out, 0);
-    let finished = true;
-    StripAnswer {
-        refusal: 0,
-        mark: 0,
-        count: TAG_BYTES,
-        state: StripState {
-            bytes: v,
-            count: s.count,
-            finished,
-        },
-    }
+    let mut state = s;
+    let written = end_into(&mut state, out);
+    StripOutcome { written, state }
 }

@@ -1,10 +1,9 @@
 -- `icepole_bench::bench_verify128` meets its contract: the number is that of the answer.
 -- Assumes nothing.
-use mathlib.Core.Path.{ap}
-use Rattle.icepole.specs.declared.Opened.{Opened}
-use Rattle.icepole.specs.Answers.{open_answer}
+use mathlib.Core.Path.{ap, ◌∙◌}
+use Rattle.icepole.specs.Answers.{Opened, open_answer}
 use Rattle.icepole_bench.proofs.bench_verify128.Goals as goal
 
 pub returns : goal.returns
 unfolding open_answer
-returns c = ap (λ (r : Opened). r.refusal) c.verify.ensures
+returns c = c.number_of.ensures ∙ ap (λ (r : Opened). r.refusal) c.verify-verified.ensures

@@ -1,20 +1,16 @@
 -- `icepole_c::strip_state_in` meets its contract.
 -- Assumes nothing.
-use mathlib.Core.Path.{◌≡◌, ap₂, ◌∙◌}
+use mathlib.Core.Path.{ap₂}
 use mathlib.Core.Bool.{not}
 use Prim.Native.Nat.{ℕ}
-use native.Mathlib.Omega.{arith}
 use lib.Dec.{eqb}
-use lib.ListN.{length, take, get_or}
-use lib.Seq.{length-take-le}
+use lib.ListN.{get_or}
 use Rattle.bytes_le.specs.Bytes.{Bytes}
-use Rattle.bytes_le.proofs.Laws.{put_whole}
 use Rattle.icepole_c.proofs.strip_state_in.Goals as goal
 
 pub returns : goal.returns
 returns c =
     let a = c.args in
     let b = a.b.now in
-    let l : length (take 160 a.b.now) ≡ 160 = length-take-le 160 a.b.now (omega arith) in
     ap₂ (λ (v : Bytes) (n : ℕ). record { bytes = v; count = n; finished = not (eqb (get_or b 168 0) 0) })
-    (c.put_bytes.ensures.1 ∙ put_whole _ _ (omega (arith, l))) c.load_le-count.ensures.0
+    c.copy_from_slice.ensures.after c.load_le-count.ensures.0

@@ -2,7 +2,6 @@
 -- Assumes nothing.
 use mathlib.Core.Path.{refl, ap, ◌∙◌}
 use native.Mathlib.Omega.{arith}
-use borrow.Author.Rules.{rules}
 use Rattle.state_bytes.specs.StateBytes.{bytes_of}
 use Rattle.state_bytes.proofs.Lengths.{length-bytes}
 use Rattle.strips.specs.Machine.{Held}
@@ -10,7 +9,7 @@ use Rattle.strips.proofs.Turns.{block-fed, block-put}
 use Rattle.strips.proofs.feed_blocks.Goals as goal
 
 pub loop-at-init : goal.loop-at-init
-loop-at-init c = (omega arith, refl, refl, refl)
+loop-at-init c = (omega arith, refl, refl)
 
 pub loop-at-preserved : goal.loop-at-preserved
 loop-at-preserved c =
@@ -23,7 +22,6 @@ loop-at-preserved c =
       omega arith,
       block-fed m l.at h s _ _ (length-bytes l.s) q.0 f ∙ l.invariant.1,
       block-put m l.at h s _ _ (length-bytes l.s) q.0 f l.out _ (omega arith) q.1 ∙ l.invariant.2,
-      search rules,
     )
 
 pub returns : goal.returns

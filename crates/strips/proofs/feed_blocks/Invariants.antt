@@ -13,7 +13,6 @@ invariant-loop-at l =
     (l.at ≤ length l.m)
     × (fed 128 (held (bytes_of l.s) 0) (drop l.at l.m) ≡ fed 128 (held (bytes_of l.initial.s) 0) (drop l.from l.m))
     × (put_bytes l.out l.at (fed_bytes 128 (held (bytes_of l.s) 0) (drop l.at l.m)) ≡ put_bytes l.initial.out l.from (fed_bytes 128 (held (bytes_of l.initial.s) 0) (drop l.from l.m)))
-    × (length l.out ≡ length l.initial.out)
 
 abbrev pub decreases-loop-at : goal.decreases-loop-at
 decreases-loop-at l = length l.m - l.at

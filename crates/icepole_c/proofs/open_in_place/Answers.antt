@@ -1,0 +1,42 @@
+-- `icepole_c::open_in_place` meets its contract: where the further slice is long enough, by what opening in place answers; the message fits.
+-- Assumes nothing.
+use mathlib.Core.Path.{sym, ap, ◌∙◌}
+use mathlib.Core.Bool.{Bool}
+use mathlib.Core.List.{◌++◌}
+use native.Mathlib.Omega.{arith}
+use Rattle.blocks.specs.Bounds.{Bounded}
+use Rattle.icepole.specs.Answers.{open_answer, open_output}
+use Rattle.icepole.proofs.Answers.{fits-itself}
+use Rattle.icepole.proofs.Bounds.{bounded-by}
+use Rattle.icepole_c.proofs.Returned.{long-call, short-call}
+use Rattle.icepole_c.proofs.open_in_place.Goals as goal
+use Rattle.icepole_c.proofs.open_in_place.Goals.{After-sizes_of-secret_length}
+
+bounds : (c : After-sizes_of-secret_length) → Bounded c.sizes_of-secret_length.result
+bounds c = bounded-by c.args.v _ c.sizes_of-secret_length.ensures
+
+pub overflow_add-secret_length : goal.overflow_add-secret_length
+overflow_add-secret_length c = omega (arith, (bounds (goal.at.overflow_add-secret_length c).After-sizes_of-secret_length).secret)
+
+pub returns-then-info-secret_length : goal.returns-then-info-secret_length
+returns-then-info-secret_length c =
+    let a = c.args in
+    let h = rw c.sizes_of-secret_length.ensures at c.if-info-secret_length.true in
+    let m = c.may_open.ensures in
+    rw c.number_of.ensures
+    (short-call a.v a.key.now a.nonce.now a.first.now a.second.now a.buffer.now a.buffer.now a.info.now _ (omega (arith, h)) m.number m.mark)
+
+pub put_info-requires : goal.put_info-requires
+put_info-requires c =
+    ((bounds (goal.at.put_info-requires c).After-sizes_of-secret_length).secret, c.if-info-secret_length.false)
+
+pub returns : goal.returns
+returns c =
+    let m = c.open_in_place-opened.ensures in
+    let a = c.args in
+    let f = sym (fits-itself a.v a.buffer.now) in
+    long-call a.v _ c.sizes_of-secret_length.ensures a.key.now a.nonce.now (a.first.now ++ a.second.now) a.buffer.now a.buffer.now a.info.now
+    c.if-info-secret_length.false _
+    (m.answer ∙ ap (open_answer a.v a.key.now a.nonce.now (a.first.now ++ a.second.now) a.buffer.now) f) _
+    (m.output ∙ ap (λ (b : Bool). open_output a.v a.key.now a.nonce.now (a.first.now ++ a.second.now) a.buffer.now b a.buffer.now) f) _
+    c.number_of-2.ensures _ c.put_info.ensures
