@@ -1,6 +1,6 @@
 -- Data in blocks: each function over all blocks, by its first block and the rest.
 -- Assumes nothing.
-use mathlib.Core.Path.{◌≡◌, ap, ap₂, ◌∙◌}
+use mathlib.Core.Path.{◌≡◌, refl, sym, ap, ap₂, ◌∙◌}
 use Prim.Native.Nat.{ℕ, zero, suc, ◌<◌, ◌+◌, ◌-◌, ◌*◌, ◌/◌, ◌≤◌}
 use native.Mathlib.Nat.{le_refl, div-eq_of_lt, add-mul-div_right, one-mul}
 use native.Mathlib.Omega.{arith}
@@ -11,7 +11,8 @@ use lib.Seq.{length-take-le, take_at, drop_at}
 use Rattle.bytes_le.specs.Bytes.{Bytes}
 use Rattle.bits.proofs.Cases.{le-or-lt}
 use Rattle.state_bytes.proofs.Lengths.{length-permuted}
-use Rattle.blocks.specs.Sealing.{◌⊕₈◌, absorb, absorb_associated, absorb_blocks, absorb_message, blocks_before, decrypt, encrypt, pad, xor_with}
+use Rattle.blocks.specs.Sealing.{◌⊕₈◌, absorb, absorb_associated, absorb_blocks, absorb_message, blocks_before, decrypt, decrypt_blocks, encrypt, encrypt_blocks, pad, xor_with}
+use Rattle.blocks.specs.Ways.{put_blocks, put_by, taken_blocks, taken_by}
 use Rattle.blocks.proofs.Xor.{length-xor, xor-twice}
 
 pub length-absorb : (v b : Bytes) (f : ℕ) → length (absorb v b f) ≡ 160
@@ -43,61 +44,84 @@ module _ (r : ℕ) (hr : 0 < r) where
     by_blocks d = fuelled (length d) d (le_refl (length d))
 
   -- ---- the functions over all blocks
-  module _ (more end : ℕ) where
-    all-last : (v d : Bytes) → length d ≤ r → absorb_blocks r more end (blocks_before r (length d)) v d ≡ absorb v d end
-    all-last v d h = rw (blocks-before-last d h)
+  module _ (taken : Bytes → Bytes → Bytes) (more : ℕ) where
+    pub taken-last : (end : ℕ) (v d : Bytes) → length d ≤ r → taken_by r taken more end v d ≡ absorb v (taken v d) end
+    unfolding taken_by
+    taken-last end v d h = rw (blocks-before-last d h)
 
-    all_more : (v d : Bytes) → r < length d
-        → absorb_blocks r more end (blocks_before r (length d)) v d ≡ absorb_blocks r more end (blocks_before r (length (drop r d))) (absorb v (take r d) more) (drop r d)
-    all_more v d h = rw (blocks-before-more d h)
+    pub taken-more : (end : ℕ) (v d : Bytes) → r < length d → taken_by r taken more end v d ≡ taken_by r taken more end (absorb v (taken v (take r d)) more) (drop r d)
+    unfolding taken_by
+    taken-more end v d h = rw (blocks-before-more d h)
 
-    length-all : (d v : Bytes) → length (absorb_blocks r more end (blocks_before r (length d)) v d) ≡ 160
-    length-all =
-        by_blocks (λ (d : Bytes). (v : Bytes) → length (absorb_blocks r more end (blocks_before r (length d)) v d) ≡ 160)
-        (λ d h v. ap length (all-last v d h) ∙ length-absorb v d end)
-        (λ d h ih v. ap length (all_more v d h) ∙ ih (absorb v (take r d) more))
+    pub put-last : (v d : Bytes) → length d ≤ r → put_by r taken more v d ≡ v ⊕₈ d
+    unfolding put_by
+    put-last v d h = rw (blocks-before-last d h)
 
-  pub associated-last : (v d : Bytes) → length d ≤ r → absorb_associated r v d ≡ absorb v d 1
-  unfolding absorb_associated
-  associated-last = all-last 0 1
+    pub put-more : (v d : Bytes) → r < length d
+        → put_by r taken more v d ≡ (v ⊕₈ take r d) ++ put_by r taken more (absorb v (taken v (take r d)) more) (drop r d)
+    unfolding put_by
+    put-more v d h = rw (blocks-before-more d h)
 
-  pub associated-more : (v d : Bytes) → r < length d → absorb_associated r v d ≡ absorb_associated r (absorb v (take r d) 0) (drop r d)
-  unfolding absorb_associated
-  associated-more = all_more 0 1
+    pub length-taken : (end : ℕ) (d v : Bytes) → length (taken_by r taken more end v d) ≡ 160
+    length-taken end =
+        by_blocks (λ (d : Bytes). (v : Bytes) → length (taken_by r taken more end v d) ≡ 160)
+        (λ d h v. ap length (taken-last end v d h) ∙ length-absorb v (taken v d) end)
+        (λ d h ih v. ap length (taken-more end v d h) ∙ ih (absorb v (taken v (take r d)) more))
 
-  pub length-associated : (v d : Bytes) → length (absorb_associated r v d) ≡ 160
-  unfolding absorb_associated
-  length-associated v d = length-all 0 1 d v
+  -- ---- sealing takes the bytes themselves
+  seal-blocks : (more end k : ℕ) (v d : Bytes) → taken_blocks r (λ (v b : Bytes). b) more end k v d ≡ absorb_blocks r more end k v d
+  seal-blocks more end zero v d = refl
+  seal-blocks more end (suc k) v d = seal-blocks more end k (absorb v (take r d) more) (drop r d)
+
+  pub associated-taken : (v d : Bytes) → taken_by r (λ (v b : Bytes). b) 0 1 v d ≡ absorb_associated r v d
+  unfolding taken_by absorb_associated
+  associated-taken v d = seal-blocks 0 1 (blocks_before r (length d)) v d
+
+  pub message-taken : (v d : Bytes) → taken_by r (λ (v b : Bytes). b) 1 0 v d ≡ absorb_message r v d
+  unfolding taken_by absorb_message
+  message-taken v d = seal-blocks 1 0 (blocks_before r (length d)) v d
+
+  encrypt-blocks : (k : ℕ) (v d : Bytes) → put_blocks r (λ (v b : Bytes). b) 1 k v d ≡ encrypt_blocks r k v d
+  encrypt-blocks zero v d = refl
+  encrypt-blocks (suc k) v d = ap (λ (b : Bytes). (v ⊕₈ take r d) ++ b) (encrypt-blocks k (absorb v (take r d) 1) (drop r d))
+
+  pub encrypt-put : (v d : Bytes) → put_by r (λ (v b : Bytes). b) 1 v d ≡ encrypt r v d
+  unfolding put_by encrypt
+  encrypt-put v d = encrypt-blocks (blocks_before r (length d)) v d
+
+  decrypt-blocks : (k : ℕ) (v d : Bytes) → put_blocks r ◌⊕₈◌ 1 k v d ≡ decrypt_blocks r k v d
+  decrypt-blocks zero v d = refl
+  decrypt-blocks (suc k) v d = ap (λ (b : Bytes). (v ⊕₈ take r d) ++ b) (decrypt-blocks k (absorb v (v ⊕₈ take r d) 1) (drop r d))
+
+  pub decrypt-put : (v d : Bytes) → put_by r ◌⊕₈◌ 1 v d ≡ decrypt r v d
+  unfolding put_by decrypt
+  decrypt-put v d = decrypt-blocks (blocks_before r (length d)) v d
 
   pub message-last : (v d : Bytes) → length d ≤ r → absorb_message r v d ≡ absorb v d 0
-  unfolding absorb_message
-  message-last = all-last 1 0
+  message-last v d h = sym (message-taken v d) ∙ taken-last (λ (v b : Bytes). b) 1 0 v d h
 
   pub message-more : (v d : Bytes) → r < length d → absorb_message r v d ≡ absorb_message r (absorb v (take r d) 1) (drop r d)
-  unfolding absorb_message
-  message-more = all_more 1 0
+  message-more v d h = sym (message-taken v d) ∙ taken-more (λ (v b : Bytes). b) 1 0 v d h ∙ message-taken _ _
+
+  pub length-associated : (v d : Bytes) → length (absorb_associated r v d) ≡ 160
+  length-associated v d = ap length (sym (associated-taken v d)) ∙ length-taken (λ (v b : Bytes). b) 0 1 d v
 
   pub length-message : (v d : Bytes) → length (absorb_message r v d) ≡ 160
-  unfolding absorb_message
-  length-message v d = length-all 1 0 d v
+  length-message v d = ap length (sym (message-taken v d)) ∙ length-taken (λ (v b : Bytes). b) 1 0 d v
 
   pub encrypt-last : (v d : Bytes) → length d ≤ r → encrypt r v d ≡ v ⊕₈ d
-  unfolding encrypt
-  encrypt-last v d h = rw (blocks-before-last d h)
+  encrypt-last v d h = sym (encrypt-put v d) ∙ put-last (λ (v b : Bytes). b) 1 v d h
 
   pub encrypt-more : (v d : Bytes) → r < length d
       → encrypt r v d ≡ (v ⊕₈ take r d) ++ encrypt r (absorb v (take r d) 1) (drop r d)
-  unfolding encrypt
-  encrypt-more v d h = rw (blocks-before-more d h)
+  encrypt-more v d h = sym (encrypt-put v d) ∙ put-more (λ (v b : Bytes). b) 1 v d h ∙ ap (λ (b : Bytes). (v ⊕₈ take r d) ++ b) (encrypt-put _ _)
 
-  pub decrypt-last : (v d : Bytes) → length d ≤ r → decrypt r v d ≡ v ⊕₈ d
-  unfolding decrypt
-  decrypt-last v d h = rw (blocks-before-last d h)
+  decrypt-last : (v d : Bytes) → length d ≤ r → decrypt r v d ≡ v ⊕₈ d
+  decrypt-last v d h = sym (decrypt-put v d) ∙ put-last ◌⊕₈◌ 1 v d h
 
-  pub decrypt-more : (v d : Bytes) → r < length d
+  decrypt-more : (v d : Bytes) → r < length d
       → decrypt r v d ≡ (v ⊕₈ take r d) ++ decrypt r (absorb v (v ⊕₈ take r d) 1) (drop r d)
-  unfolding decrypt
-  decrypt-more v d h = rw (blocks-before-more d h)
+  decrypt-more v d h = sym (decrypt-put v d) ∙ put-more ◌⊕₈◌ 1 v d h ∙ ap (λ (b : Bytes). (v ⊕₈ take r d) ++ b) (decrypt-put _ _)
 
   -- ---- a block is shorter than the state
   module _ (hs : r < 160) where
@@ -106,27 +130,22 @@ module _ (r : ℕ) (hr : 0 < r) where
         let e : length (take r d) ≡ r = length-take-le r d (omega arith) in
         length-xor v (take r d) (omega arith) ∙ e
 
-    pub length-encrypt : (d v : Bytes) → length v ≡ 160 → length (encrypt r v d) ≡ length d
-    length-encrypt =
-        by_blocks (λ (d : Bytes). (v : Bytes) → length v ≡ 160 → length (encrypt r v d) ≡ length d)
-        (λ d h v hv. ap length (encrypt-last v d h) ∙ length-xor v d (omega arith))
+    pub length-put : (taken : Bytes → Bytes → Bytes) (more : ℕ) (d v : Bytes) → length v ≡ 160 → length (put_by r taken more v d) ≡ length d
+    length-put taken more =
+        by_blocks (λ (d : Bytes). (v : Bytes) → length v ≡ 160 → length (put_by r taken more v d) ≡ length d)
+        (λ d h v hv. ap length (put-last taken more v d h) ∙ length-xor v d (omega arith))
         (λ d h ih v hv.
-        let e : length (v ⊕₈ take r d) ≡ r = length-first v d hv h in
-        ap length (encrypt-more v d h)
-        ∙ length-append (v ⊕₈ take r d) (encrypt r (absorb v (take r d) 1) (drop r d))
-        ∙ ap₂ (λ (a b : ℕ). a + b) e (ih (absorb v (take r d) 1) (length-absorb v (take r d) 1) ∙ length-drop r d)
+        let u : Bytes = absorb v (taken v (take r d)) more in
+        ap length (put-more taken more v d h)
+        ∙ length-append (v ⊕₈ take r d) (put_by r taken more u (drop r d))
+        ∙ ap₂ (λ (a b : ℕ). a + b) (length-first v d hv h) (ih u (length-absorb v (taken v (take r d)) more) ∙ length-drop r d)
         ∙ (omega arith))
 
+    pub length-encrypt : (d v : Bytes) → length v ≡ 160 → length (encrypt r v d) ≡ length d
+    length-encrypt d v hv = ap length (sym (encrypt-put v d)) ∙ length-put (λ (v b : Bytes). b) 1 d v hv
+
     pub length-decrypt : (d v : Bytes) → length v ≡ 160 → length (decrypt r v d) ≡ length d
-    length-decrypt =
-        by_blocks (λ (d : Bytes). (v : Bytes) → length v ≡ 160 → length (decrypt r v d) ≡ length d)
-        (λ d h v hv. ap length (decrypt-last v d h) ∙ length-xor v d (omega arith))
-        (λ d h ih v hv.
-        let e : length (v ⊕₈ take r d) ≡ r = length-first v d hv h in
-        ap length (decrypt-more v d h)
-        ∙ length-append (v ⊕₈ take r d) (decrypt r (absorb v (v ⊕₈ take r d) 1) (drop r d))
-        ∙ ap₂ (λ (a b : ℕ). a + b) e (ih (absorb v (v ⊕₈ take r d) 1) (length-absorb v (v ⊕₈ take r d) 1) ∙ length-drop r d)
-        ∙ (omega arith))
+    length-decrypt d v hv = ap length (sym (decrypt-put v d)) ∙ length-put ◌⊕₈◌ 1 d v hv
 
     -- the first block of a ciphertext, and the rest
     encrypt-take : (v d : Bytes) → length v ≡ 160 → r < length d → take r (encrypt r v d) ≡ v ⊕₈ take r d
@@ -138,11 +157,11 @@ module _ (r : ℕ) (hr : 0 < r) where
     encrypt-drop v d hv h =
         ap (drop r) (encrypt-more v d h) ∙ drop_at (v ⊕₈ take r d) (encrypt r (absorb v (take r d) 1) (drop r d)) r (length-first v d hv h)
 
-    pub decrypt-take : (v d : Bytes) → length v ≡ 160 → r < length d → take r (decrypt r v d) ≡ v ⊕₈ take r d
+    decrypt-take : (v d : Bytes) → length v ≡ 160 → r < length d → take r (decrypt r v d) ≡ v ⊕₈ take r d
     decrypt-take v d hv h =
         ap (take r) (decrypt-more v d h) ∙ take_at (v ⊕₈ take r d) (decrypt r (absorb v (v ⊕₈ take r d) 1) (drop r d)) r (length-first v d hv h)
 
-    pub decrypt-drop : (v d : Bytes) → length v ≡ 160 → r < length d
+    decrypt-drop : (v d : Bytes) → length v ≡ 160 → r < length d
         → drop r (decrypt r v d) ≡ decrypt r (absorb v (v ⊕₈ take r d) 1) (drop r d)
     decrypt-drop v d hv h =
         ap (drop r) (decrypt-more v d h) ∙ drop_at (v ⊕₈ take r d) (decrypt r (absorb v (v ⊕₈ take r d) 1) (drop r d)) r (length-first v d hv h)
@@ -182,12 +201,18 @@ module _ (r : ℕ) (hr : 0 < r) where
         ∙ lib.ListN.take-append-drop r d)
 
     -- ---- the state after the message of a ciphertext, block by block
-    pub checked-last : (v d : Bytes) → length v ≡ 160 → length d ≤ r → absorb_message r v (decrypt r v d) ≡ absorb v (v ⊕₈ d) 0
+    checked-last : (v d : Bytes) → length v ≡ 160 → length d ≤ r → absorb_message r v (decrypt r v d) ≡ absorb v (v ⊕₈ d) 0
     checked-last v d hv h =
         message-last v (decrypt r v d) (rw (length-decrypt d v hv) h) ∙ ap (λ (m : Bytes). absorb v m 0) (decrypt-last v d h)
 
-    pub checked-more : (v d : Bytes) → length v ≡ 160 → r < length d
+    checked-more : (v d : Bytes) → length v ≡ 160 → r < length d
         → absorb_message r v (decrypt r v d) ≡ absorb_message r (absorb v (v ⊕₈ take r d) 1) (decrypt r (absorb v (v ⊕₈ take r d) 1) (drop r d))
     checked-more v d hv h =
         message-more v (decrypt r v d) (rw (length-decrypt d v hv) h)
         ∙ ap₂ (λ (a b : Bytes). absorb_message r (absorb v a 1) b) (decrypt-take v d hv h) (decrypt-drop v d hv h)
+
+    pub checked-taken : (d v : Bytes) → length v ≡ 160 → taken_by r ◌⊕₈◌ 1 0 v d ≡ absorb_message r v (decrypt r v d)
+    checked-taken =
+        by_blocks (λ (d : Bytes). (v : Bytes) → length v ≡ 160 → taken_by r ◌⊕₈◌ 1 0 v d ≡ absorb_message r v (decrypt r v d))
+        (λ d h v hv. taken-last ◌⊕₈◌ 1 0 v d h ∙ sym (checked-last v d hv h))
+        (λ d h ih v hv. taken-more ◌⊕₈◌ 1 0 v d h ∙ ih (absorb v (v ⊕₈ take r d) 1) (length-absorb v (v ⊕₈ take r d) 1) ∙ sym (checked-more v d hv h))

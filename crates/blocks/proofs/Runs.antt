@@ -10,7 +10,6 @@ use lib.ListN.{length, take, drop}
 use Rattle.bytes_le.specs.Bytes.{Bytes, le, put_bytes}
 use Rattle.bytes_le.proofs.Laws.{put_front, put_next}
 use Rattle.blocks.specs.Sealing.{◌⊕₈◌, xor_with}
-use Rattle.blocks.proofs.Xor.{xor-none}
 
 -- the bytes of an exclusive or of words
 pub le-xor : (n a b : ℕ) → le n (bit_xor a b) ≡ le n a ⊕₈ le n b
@@ -18,12 +17,6 @@ le-xor zero a b = refl
 le-xor (suc n) a b =
     ap₂ (λ (x : ℕ) (l : Bytes). x ∷ l) (xor_mod a b 8)
     (ap (le n) (xor_shr a b 8) ∙ le-xor n (a / 256) (b / 256))
-
--- only so many bytes count
-pub xor-take : (v q : Bytes) → take (length q) v ⊕₈ q ≡ v ⊕₈ q
-xor-take v [] = sym (xor-none v)
-xor-take [] (y ∷ q) = refl
-xor-take (x ∷ v) (y ∷ q) = ap (λ (l : Bytes). bit_xor x y ∷ l) (xor-take v q)
 
 length-xor-take : (v q : Bytes) → length q ≤ length v → length (take (length q) v ⊕₈ q) ≡ length q
 length-xor-take v [] h = refl

@@ -9,16 +9,7 @@ use lib.Bits.{bit_xor}
 use Rattle.bytes_le.specs.Bytes.{Bytes}
 use Rattle.bits.proofs.Tests.{number-xor-cancel}
 use Rattle.blocks.specs.Sealing.{◌⊕₈◌, xor_at, xor_with}
-
-pub xor-none : (v : Bytes) → v ⊕₈ [] ≡ []
-xor-none [] = refl
-xor-none (x ∷ v) = refl
-
-pub length-xor : (v b : Bytes) → length b ≤ length v → length (v ⊕₈ b) ≡ length b
-length-xor [] [] h = refl
-length-xor [] (y ∷ b) h = absurd (not-suc-le-zero h)
-length-xor (x ∷ v) [] h = refl
-length-xor (x ∷ v) (y ∷ b) h = ap suc (length-xor v b (le_of_suc-le-suc h))
+pub use Rattle.blocks.specs.WayLaws.{length-xor, xor-none}
 
 pub xor-twice : (v b : Bytes) → length b ≤ length v → v ⊕₈ (v ⊕₈ b) ≡ b
 xor-twice [] [] h = refl

@@ -8,4 +8,4 @@ pub returns : goal.returns
 returns c =
     let a = c.args in
     opened-ready a.q c.requires.0 a.key.now a.nonce.now (a.first.now ++ a.second.now) a.c.now a.secret.now c.requires.4
-    c.keyed_state.ensures c.decrypt_bytes.ensures.0 c.decrypt_bytes.ensures.1 c.finish.ensures c.absorb_associated.ensures
+    c.keyed_state.ensures c.take_bytes.ensures.0 c.take_bytes.ensures.1 c.finish.ensures c.absorb_associated.ensures
