@@ -13,6 +13,7 @@ use lib.Seq.{drop-append-le, drop-drop, length-take-le, take_all, take-append-ad
 use Rattle.bytes_le.specs.Bytes.{Bytes, le, put_bytes}
 use Rattle.bytes_le.proofs.Laws.{length-le, put-put, take_put}
 use Rattle.blocks.specs.Sealing.{◌⊕₈◌}
+use Rattle.blocks.specs.Ways.{Takes}
 use Rattle.blocks.specs.WayLaws.{length-xor, xor-front, xor-none}
 use Rattle.blocks.proofs.Runs.{le-xor}
 
@@ -86,16 +87,25 @@ module _ (v : Bytes) (i l z : ℕ) (hl : l ≤ 8) (hv : i + 8 ≤ length v) (ez 
   word-xored = xored 8 l z k (drop i v) hl ez hk ∙ ap (λ (b : Bytes). (drop i v ⊕₈ b) ++ drop l (take 8 (drop i v))) ek
 
   -- the l bytes of the sum
-  pub bytes-xored : le l (bit_xor z k) ≡ drop i v ⊕₈ d
+  bytes-xored : le l (bit_xor z k) ≡ drop i v ⊕₈ d
   bytes-xored =
       sym (take-le l 8 (bit_xor z k) hl) ∙ ap (take l) word-xored ∙ take_at (drop i v ⊕₈ d) (drop l (take 8 (drop i v))) l lx
 
   -- the word with k xored in
-  pub absorbed : put_bytes v i (le 8 (bit_xor z k)) ≡ put_bytes v i (drop i v ⊕₈ d)
+  absorbed : put_bytes v i (le 8 (bit_xor z k)) ≡ put_bytes v i (drop i v ⊕₈ d)
   absorbed =
       let n : length (drop i v ⊕₈ d) ≡ l = lx in
       ap (put_bytes v i) (word-xored ∙ ap (λ (m : ℕ). (drop i v ⊕₈ d) ++ drop m (take 8 (drop i v))) (sym n))
       ∙ put-kept v (drop i v ⊕₈ d) i 8 (omega arith) hv
+
+-- ---- the same, where x is what of the bytes d, whose number is k, is taken at z
+pub taken-word : {taken : Bytes → Bytes → Bytes} → Takes taken → (v : Bytes) (i l z k x : ℕ) (d : Bytes) → l ≤ 8 → i + 8 ≤ length v → le 8 z ≡ take 8 (drop i v)
+    → (le l k ≡ d) × (k < 256 ^ l) → (le l x ≡ taken (le 8 z) (le l k)) × (x < 256 ^ l)
+    → (put_bytes v i (le 8 (bit_xor z x)) ≡ put_bytes v i (drop i v ⊕₈ taken (drop i v) d)) × (le l (bit_xor z k) ≡ drop i v ⊕₈ d)
+taken-word {taken} laws v i l z k x d hl hv ez hk hx =
+    let hd : length d ≤ 8 = let e : length d ≡ l = ap length (sym hk.0) ∙ length-le l k in omega arith in
+    let ex : le l x ≡ taken (drop i v) d = hx.0 ∙ ap₂ taken ez hk.0 ∙ laws.front (drop i v) d 8 hd in
+    (absorbed v i l z hl hv ez x (taken (drop i v) d) ex hx.1, bytes-xored v i l z hl hv ez k d hk.0 hk.1)
 
 -- ---- a shift by l bytes
 pow-bytes : (l : ℕ) → 2 ^ (8 * l) ≡ 256 ^ l

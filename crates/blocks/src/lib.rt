@@ -350,12 +350,12 @@ fn take_blocks<A: Way, S: Source, K: Sink>(
         × ((end : ℕ) → finish (bytes_of s.new) result end ≡ taken_by (8 * n) A.taken more end (bytes_of s.old) (take l (drop from (S.bytes d))))
         × (out.new ≡ K.put out.old to (put_by (8 * n) A.taken more (bytes_of s.old) (take l (drop from (S.bytes d))))) }
 {
-    let r = 8 * n;
+    let block = 8 * n;
     let mut at: usize = 0;
-    while r < l - at {
+    while block < l - at {
         take_full::<A, S, K>(s, d, from + at, n, out, to + at);
-        finish(s, r, more);
-        at += r;
+        finish(s, block, more);
+        at += block;
     }
     take_bytes::<A, S, K>(s, d, from + at, l - at, out, to + at);
     l - at
@@ -396,8 +396,8 @@ fn verify_message(s: &mut State, n: usize, c: &[u8], from: usize, l: usize)
     ensures { bytes_of s.new ≡ absorb_message (8 * n) (bytes_of s.old)
         (decrypt (8 * n) (bytes_of s.old) (take l (drop from c.now))) }
 {
-    let last = take_blocks::<Open, &[u8], Nowhere>(s, n, 1, c, from, l, &mut [], 0);
-    finish(s, last, 0);
+    let end = take_blocks::<Open, &[u8], Nowhere>(s, n, 1, c, from, l, &mut [], 0);
+    finish(s, end, 0);
 }
 
 // The message of l bytes of ciphertext from index from on is put into out, at its front. What is left of the state is of no use.
@@ -429,6 +429,30 @@ pub fn decrypt_in_place(s: &mut State, n: usize, b: &mut [u8], from: usize, l: u
 }
 
 // ---- whole messages, whose sizes fit
+// The state after the secret number, which is read in d and put into out, at the front of each, and the associated data.
+fn ready<A: Way>(
+    s: &mut State,
+    q: Sizes,
+    key: &[u8],
+    nonce: &[u8],
+    first: &[u8],
+    second: &[u8],
+    d: &[u8],
+    out: &mut [u8],
+)
+    requires { Bounded q × (length key.now ≡ q.key) × (length nonce.now ≡ q.nonce)
+        × (length first.now + length second.now ≤ max_length) × (q.secret ≤ length d.now) × (q.secret ≤ length out.old) }
+    ensures { (bytes_of s.new ≡ ready q.block (keyed key.now nonce.now)
+        (A.taken (keyed key.now nonce.now) (take q.secret d.now)) (first.now ++ second.now))
+        × (out.new ≡ put_bytes out.old 0 (keyed key.now nonce.now ⊕₈ take q.secret d.now)) }
+{
+    let n = q.secret;
+    keyed_state(s, key, nonce);
+    take_bytes::<A, &[u8], Written>(s, d, 0, n, out, 0);
+    finish(s, n, 0);
+    absorb_associated(s, q.block / 8, first, second);
+}
+
 // The state after the secret number, which is put into out at its front, sealed, and the associated data.
 pub fn seal_ready(
     s: &mut State,
@@ -446,10 +470,7 @@ pub fn seal_ready(
         (first.now ++ second.now))
         × (out.new ≡ put_bytes out.old 0 (keyed key.now nonce.now ⊕₈ secret.now)) }
 {
-    keyed_state(s, key, nonce);
-    encrypt_bytes(s, secret, 0, secret.len(), out, 0);
-    finish(s, secret.len(), 0);
-    absorb_associated(s, q.block / 8, first, second);
+    ready::<Seal>(s, q, key, nonce, first, second, secret, out);
 }
 
 // Writes the sealed message at the front of out.
@@ -473,30 +494,6 @@ pub fn seal_into(
     seal_ready(&mut s, q, key, nonce, secret, first, second, out);
     encrypt_message(&mut s, q.block / 8, message, out, n);
     put_tag(&s, out, n + message.len());
-}
-
-// The state after the secret number and the associated data of a sealed message; the secret number is put into secret.
-fn open_ready(
-    s: &mut State,
-    q: Sizes,
-    key: &[u8],
-    nonce: &[u8],
-    first: &[u8],
-    second: &[u8],
-    c: &[u8],
-    secret: &mut [u8],
-)
-    requires { Bounded q × (length key.now ≡ q.key) × (length nonce.now ≡ q.nonce)
-        × (length first.now + length second.now ≤ max_length) × (q.secret ≤ length c.now) × (q.secret ≤ length secret.old) }
-    ensures { (bytes_of s.new ≡ ready_of q key.now nonce.now (first.now ++ second.now) c.now)
-        × (secret.new ≡ put_bytes secret.old 0 (secret_of q key.now nonce.now c.now)) }
-{
-    let r = q.block / 8;
-    let n = q.secret;
-    keyed_state(s, key, nonce);
-    take_bytes::<Open, &[u8], Written>(s, c, 0, n, secret, 0);
-    finish(s, n, 0);
-    absorb_associated(s, r, first, second);
 }
 
 // Whether the tag agrees, of a sealed message after whose associated data the state is u.
@@ -531,6 +528,6 @@ pub fn verify_sealed(
         × (bytes_of s.new ≡ ready_of q key.now nonce.now (first.now ++ second.now) c.now)
         × (secret.new ≡ put_bytes secret.old 0 (secret_of q key.now nonce.now c.now)) }
 {
-    open_ready(s, q, key, nonce, first, second, c, secret);
+    ready::<Open>(s, q, key, nonce, first, second, c, secret);
     tag_agrees(q, s, c)
 }

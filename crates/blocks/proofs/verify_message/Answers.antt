@@ -10,4 +10,4 @@ use Rattle.blocks.proofs.verify_message.Goals as goal
 pub returns : goal.returns
 returns c =
     let a = c.args in
-    c.finish.ensures ∙ c.take_blocks-last.ensures.1 0 ∙ checked-taken (8 * a.n) (omega arith) (omega arith) _ _ (length-bytes a.s.now)
+    c.finish.ensures ∙ c.take_blocks-end.ensures.1 0 ∙ checked-taken (8 * a.n) (omega arith) (omega arith) _ _ (length-bytes a.s.now)
