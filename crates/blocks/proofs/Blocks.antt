@@ -116,13 +116,6 @@ module _ (r : ℕ) (hr : 0 < r) where
       → encrypt r v d ≡ (v ⊕₈ take r d) ++ encrypt r (absorb v (take r d) 1) (drop r d)
   encrypt-more v d h = sym (encrypt-put v d) ∙ put-more (λ (v b : Bytes). b) 1 v d h ∙ ap (λ (b : Bytes). (v ⊕₈ take r d) ++ b) (encrypt-put _ _)
 
-  decrypt-last : (v d : Bytes) → length d ≤ r → decrypt r v d ≡ v ⊕₈ d
-  decrypt-last v d h = sym (decrypt-put v d) ∙ put-last ◌⊕₈◌ 1 v d h
-
-  decrypt-more : (v d : Bytes) → r < length d
-      → decrypt r v d ≡ (v ⊕₈ take r d) ++ decrypt r (absorb v (v ⊕₈ take r d) 1) (drop r d)
-  decrypt-more v d h = sym (decrypt-put v d) ∙ put-more ◌⊕₈◌ 1 v d h ∙ ap (λ (b : Bytes). (v ⊕₈ take r d) ++ b) (decrypt-put _ _)
-
   -- ---- a block is shorter than the state
   module _ (hs : r < 160) where
     length-first : (v d : Bytes) → length v ≡ 160 → r < length d → length (v ⊕₈ take r d) ≡ r
@@ -141,78 +134,65 @@ module _ (r : ℕ) (hr : 0 < r) where
         ∙ ap₂ (λ (a b : ℕ). a + b) (length-first v d hv h) (ih u (length-absorb v (taken v (take r d)) more) ∙ length-drop r d)
         ∙ (omega arith))
 
+    -- ---- what was put out is data in its turn: where it is taken by `back`, the same is taken of it, and the data is put out again
+    module _ (taken back : Bytes → Bytes → Bytes) (turned : (v b : Bytes) → length b ≤ length v → back v (v ⊕₈ b) ≡ taken v b) (more : ℕ) where
+      module _ (v d : Bytes) (hv : length v ≡ 160) (h : r < length d) where
+        put-first : take r (put_by r taken more v d) ≡ v ⊕₈ take r d
+        put-first = ap (take r) (put-more taken more v d h) ∙ take_at (v ⊕₈ take r d) _ r (length-first v d hv h)
+
+        put-rest : drop r (put_by r taken more v d) ≡ put_by r taken more (absorb v (taken v (take r d)) more) (drop r d)
+        put-rest = ap (drop r) (put-more taken more v d h) ∙ drop_at (v ⊕₈ take r d) _ r (length-first v d hv h)
+
+        short : length (take r d) ≤ length v
+        short = let e : length (take r d) ≡ r = length-take-le r d (omega arith) in omega arith
+
+        back-first : back v (take r (put_by r taken more v d)) ≡ taken v (take r d)
+        back-first = ap (back v) put-first ∙ turned v (take r d) short
+
+      pub taken-back : (end : ℕ) (d v : Bytes) → length v ≡ 160 → taken_by r back more end v (put_by r taken more v d) ≡ taken_by r taken more end v d
+      taken-back end =
+          by_blocks (λ (d : Bytes). (v : Bytes) → length v ≡ 160 → taken_by r back more end v (put_by r taken more v d) ≡ taken_by r taken more end v d)
+          (λ d h v hv.
+          taken-last back more end v _ (rw (length-put taken more d v hv) h)
+          ∙ ap (λ (b : Bytes). absorb v b end) (ap (back v) (put-last taken more v d h) ∙ turned v d (omega arith))
+          ∙ sym (taken-last taken more end v d h))
+          (λ d h ih v hv.
+          taken-more back more end v _ (rw (length-put taken more d v hv) h)
+          ∙ ap₂ (λ (a b : Bytes). taken_by r back more end (absorb v a more) b) (back-first v d hv h) (put-rest v d hv h)
+          ∙ ih (absorb v (taken v (take r d)) more) (length-absorb v (taken v (take r d)) more)
+          ∙ sym (taken-more taken more end v d h))
+
+      pub put-back : (d v : Bytes) → length v ≡ 160 → put_by r back more v (put_by r taken more v d) ≡ d
+      put-back =
+          by_blocks (λ (d : Bytes). (v : Bytes) → length v ≡ 160 → put_by r back more v (put_by r taken more v d) ≡ d)
+          (λ d h v hv.
+          put-last back more v _ (rw (length-put taken more d v hv) h)
+          ∙ ap (λ (c : Bytes). v ⊕₈ c) (put-last taken more v d h) ∙ xor-twice v d (omega arith))
+          (λ d h ih v hv.
+          let u : Bytes = absorb v (taken v (take r d)) more in
+          put-more back more v _ (rw (length-put taken more d v hv) h)
+          ∙ ap (λ (a : Bytes). (v ⊕₈ take r (put_by r taken more v d)) ++ put_by r back more (absorb v a more) (drop r (put_by r taken more v d))) (back-first v d hv h)
+          ∙ ap₂ (λ (a b : Bytes). (v ⊕₈ a) ++ put_by r back more u b) (put-first v d hv h) (put-rest v d hv h)
+          ∙ ap₂ (λ (a b : Bytes). a ++ b) (xor-twice v (take r d) (short v d hv h)) (ih u (length-absorb v (taken v (take r d)) more))
+          ∙ lib.ListN.take-append-drop r d)
+
+    -- ---- of a message and its ciphertext
     pub length-encrypt : (d v : Bytes) → length v ≡ 160 → length (encrypt r v d) ≡ length d
     length-encrypt d v hv = ap length (sym (encrypt-put v d)) ∙ length-put (λ (v b : Bytes). b) 1 d v hv
 
     pub length-decrypt : (d v : Bytes) → length v ≡ 160 → length (decrypt r v d) ≡ length d
     length-decrypt d v hv = ap length (sym (decrypt-put v d)) ∙ length-put ◌⊕₈◌ 1 d v hv
 
-    -- the first block of a ciphertext, and the rest
-    encrypt-take : (v d : Bytes) → length v ≡ 160 → r < length d → take r (encrypt r v d) ≡ v ⊕₈ take r d
-    encrypt-take v d hv h =
-        ap (take r) (encrypt-more v d h) ∙ take_at (v ⊕₈ take r d) (encrypt r (absorb v (take r d) 1) (drop r d)) r (length-first v d hv h)
-
-    encrypt-drop : (v d : Bytes) → length v ≡ 160 → r < length d
-        → drop r (encrypt r v d) ≡ encrypt r (absorb v (take r d) 1) (drop r d)
-    encrypt-drop v d hv h =
-        ap (drop r) (encrypt-more v d h) ∙ drop_at (v ⊕₈ take r d) (encrypt r (absorb v (take r d) 1) (drop r d)) r (length-first v d hv h)
-
-    decrypt-take : (v d : Bytes) → length v ≡ 160 → r < length d → take r (decrypt r v d) ≡ v ⊕₈ take r d
-    decrypt-take v d hv h =
-        ap (take r) (decrypt-more v d h) ∙ take_at (v ⊕₈ take r d) (decrypt r (absorb v (v ⊕₈ take r d) 1) (drop r d)) r (length-first v d hv h)
-
-    decrypt-drop : (v d : Bytes) → length v ≡ 160 → r < length d
-        → drop r (decrypt r v d) ≡ decrypt r (absorb v (v ⊕₈ take r d) 1) (drop r d)
-    decrypt-drop v d hv h =
-        ap (drop r) (decrypt-more v d h) ∙ drop_at (v ⊕₈ take r d) (decrypt r (absorb v (v ⊕₈ take r d) 1) (drop r d)) r (length-first v d hv h)
-
-    -- ---- decrypting undoes encrypting, and the other way round
-    first-twice : (v d : Bytes) → length v ≡ 160 → r < length d → v ⊕₈ (v ⊕₈ take r d) ≡ take r d
-    first-twice v d hv h =
-        let e : length (take r d) ≡ r = length-take-le r d (omega arith) in
-        xor-twice v (take r d) (omega arith)
-
+    -- decrypting undoes encrypting, and the other way round
     pub decrypt-encrypt : (d v : Bytes) → length v ≡ 160 → decrypt r v (encrypt r v d) ≡ d
-    decrypt-encrypt =
-        by_blocks (λ (d : Bytes). (v : Bytes) → length v ≡ 160 → decrypt r v (encrypt r v d) ≡ d)
-        (λ d h v hv.
-        let l : length (encrypt r v d) ≤ r = rw (length-encrypt d v hv) h in
-        decrypt-last v (encrypt r v d) l ∙ ap (λ (c : Bytes). v ⊕₈ c) (encrypt-last v d h) ∙ xor-twice v d (omega arith))
-        (λ d h ih v hv.
-        let l : r < length (encrypt r v d) = rw (length-encrypt d v hv) h in
-        let e : v ⊕₈ take r (encrypt r v d) ≡ take r d = ap (λ (c : Bytes). v ⊕₈ c) (encrypt-take v d hv h) ∙ first-twice v d hv h in
-        decrypt-more v (encrypt r v d) l
-        ∙ ap₂ (λ (a b : Bytes). a ++ decrypt r (absorb v a 1) b) e (encrypt-drop v d hv h)
-        ∙ ap (λ (b : Bytes). take r d ++ b) (ih (absorb v (take r d) 1) (length-absorb v (take r d) 1))
-        ∙ lib.ListN.take-append-drop r d)
+    decrypt-encrypt d v hv =
+        ap (decrypt r v) (sym (encrypt-put v d)) ∙ sym (decrypt-put v _) ∙ put-back (λ (v b : Bytes). b) ◌⊕₈◌ xor-twice 1 d v hv
 
     pub encrypt-decrypt : (d v : Bytes) → length v ≡ 160 → encrypt r v (decrypt r v d) ≡ d
-    encrypt-decrypt =
-        by_blocks (λ (d : Bytes). (v : Bytes) → length v ≡ 160 → encrypt r v (decrypt r v d) ≡ d)
-        (λ d h v hv.
-        let l : length (decrypt r v d) ≤ r = rw (length-decrypt d v hv) h in
-        encrypt-last v (decrypt r v d) l ∙ ap (λ (c : Bytes). v ⊕₈ c) (decrypt-last v d h) ∙ xor-twice v d (omega arith))
-        (λ d h ih v hv.
-        let l : r < length (decrypt r v d) = rw (length-decrypt d v hv) h in
-        let t : take r (decrypt r v d) ≡ v ⊕₈ take r d = decrypt-take v d hv h in
-        encrypt-more v (decrypt r v d) l
-        ∙ ap₂ (λ (a b : Bytes). (v ⊕₈ a) ++ encrypt r (absorb v a 1) b) t (decrypt-drop v d hv h)
-        ∙ ap₂ (λ (a b : Bytes). a ++ b) (first-twice v d hv h) (ih (absorb v (v ⊕₈ take r d) 1) (length-absorb v (v ⊕₈ take r d) 1))
-        ∙ lib.ListN.take-append-drop r d)
+    encrypt-decrypt d v hv =
+        ap (encrypt r v) (sym (decrypt-put v d)) ∙ sym (encrypt-put v _) ∙ put-back ◌⊕₈◌ (λ (v b : Bytes). b) (λ v b h. refl) 1 d v hv
 
-    -- ---- the state after the message of a ciphertext, block by block
-    checked-last : (v d : Bytes) → length v ≡ 160 → length d ≤ r → absorb_message r v (decrypt r v d) ≡ absorb v (v ⊕₈ d) 0
-    checked-last v d hv h =
-        message-last v (decrypt r v d) (rw (length-decrypt d v hv) h) ∙ ap (λ (m : Bytes). absorb v m 0) (decrypt-last v d h)
-
-    checked-more : (v d : Bytes) → length v ≡ 160 → r < length d
-        → absorb_message r v (decrypt r v d) ≡ absorb_message r (absorb v (v ⊕₈ take r d) 1) (decrypt r (absorb v (v ⊕₈ take r d) 1) (drop r d))
-    checked-more v d hv h =
-        message-more v (decrypt r v d) (rw (length-decrypt d v hv) h)
-        ∙ ap₂ (λ (a b : Bytes). absorb_message r (absorb v a 1) b) (decrypt-take v d hv h) (decrypt-drop v d hv h)
-
+    -- the state after the message of a ciphertext
     pub checked-taken : (d v : Bytes) → length v ≡ 160 → taken_by r ◌⊕₈◌ 1 0 v d ≡ absorb_message r v (decrypt r v d)
-    checked-taken =
-        by_blocks (λ (d : Bytes). (v : Bytes) → length v ≡ 160 → taken_by r ◌⊕₈◌ 1 0 v d ≡ absorb_message r v (decrypt r v d))
-        (λ d h v hv. taken-last ◌⊕₈◌ 1 0 v d h ∙ sym (checked-last v d hv h))
-        (λ d h ih v hv. taken-more ◌⊕₈◌ 1 0 v d h ∙ ih (absorb v (v ⊕₈ take r d) 1) (length-absorb v (v ⊕₈ take r d) 1) ∙ sym (checked-more v d hv h))
+    checked-taken d v hv =
+        sym (ap (absorb_message r v) (sym (decrypt-put v d)) ∙ sym (message-taken v _) ∙ taken-back ◌⊕₈◌ (λ (v b : Bytes). b) (λ v b h. refl) 1 0 d v hv)
