@@ -12,8 +12,9 @@ use Rattle.state_bytes.specs.StateBytes.{bytes_of}
 use Rattle.bytes_le.proofs.Laws.{behind-put, length_part, part-part, put-none, put-put, take_put}
 use Rattle.state_bytes.proofs.Lengths.{length-bytes}
 use Rattle.blocks.specs.Sealing.{◌⊕₈◌, absorb, finish, xor_with}
-use Rattle.blocks.specs.Ways.{Puts, Takes, put_by, taken_by}
+use Rattle.blocks.specs.Ways.{Puts, Takes, Unread, put_by, taken_by}
 use Rattle.blocks.proofs.Blocks.{length-put, put-last, put-more, taken-last, taken-more}
+use Rattle.blocks.proofs.Full.{unread}
 use Rattle.blocks.proofs.Steps.{padded}
 use Rattle.blocks.proofs.Xor.{length-xor}
 
@@ -31,24 +32,14 @@ pub none_put : {needs : ℕ → ℕ} {put : Bytes → ℕ → Bytes → Bytes} �
 none_put puts F s d o to = record { left = refl; put_so_far = puts.none o to }
 
 -- ---- a turn of a loop over the n bytes d, and its end
--- d stands in c: its block from index at on is that of c from index i at on
-pub record Part (c : Bytes) (i : ℕ → ℕ) (n : ℕ) (d : Bytes) : Type 0 where
+-- what is left of d from index at on stands in c from index i on
+pub record Left (c : Bytes) (i n : ℕ) (d : Bytes) (at : ℕ) : Type 0 where
   pub long : length d ≡ n
-  pub block : (at k : ℕ) → at + k ≤ n → take k (drop (i at) c) ≡ take k (drop at d)
-
-pub part : (c : Bytes) (from n : ℕ) → from + n ≤ length c → Part c (λ (at : ℕ). from + at) n (take n (drop from c))
-part c from n h =
-    record {
-      long = length_part c from n h;
-      block = λ at k g. ap (take k) (sym (drop-drop at from c)) ∙ sym (part-part (drop from c) n at k g);
-    }
-
-pub all : {n : ℕ} (d : Bytes) → length d ≡ n → Part d (λ (at : ℕ). at) n d
-all d e = record { long = e; block = λ at k h. refl }
+  pub block : (k : ℕ) → at + k ≤ n → take k (drop i c) ≡ take k (drop at d)
 
 -- at index at and the state s
 module _ {taken : Bytes → Bytes → Bytes} (laws : Takes taken) (r : ℕ) (hr : 0 < r) (hs : r < 160) (more : ℕ)
-    {c d : Bytes} {i : ℕ → ℕ} {n : ℕ} (a : Part c i n d) (at : ℕ) (s : State) where
+    {c d : Bytes} {i n at : ℕ} (a : Left c i n d at) (s : State) where
   more_left : r < n - at → r < length (drop at d)
   more_left h = rw (length-drop, a.long) h
 
@@ -59,7 +50,7 @@ module _ {taken : Bytes → Bytes → Bytes} (laws : Takes taken) (r : ℕ) (hr 
   all_left = rest d at (n - at) (ap (λ (n : ℕ). n - at) (sym a.long))
 
   -- the block is taken and padded
-  absorbed : {b t : Bytes} (k f : ℕ) → k ≤ r → at + k ≤ n → b ≡ xor_with (bytes_of s) (taken (bytes_of s) (take k (drop (i at) c)))
+  absorbed : {b t : Bytes} (k f : ℕ) → k ≤ r → at + k ≤ n → b ≡ xor_with (bytes_of s) (taken (bytes_of s) (take k (drop i c)))
       → t ≡ finish b k f → t ≡ absorb (bytes_of s) (taken (bytes_of s) (take k (drop at d))) f
   absorbed {b} {t} k f hk h eb et =
       let p : Bytes = take k (drop at d) in
@@ -67,15 +58,15 @@ module _ {taken : Bytes → Bytes → Bytes} (laws : Takes taken) (r : ℕ) (hr 
       let ld : length d ≡ n = a.long in
       let lp : length p ≡ k = length_part d at k (omega arith) in
       padded (bytes_of s) (taken (bytes_of s) p) b k f t (laws.sized (bytes_of s) p (omega arith) ∙ lp) (omega arith)
-      (eb ∙ ap (λ (p : Bytes). xor_with (bytes_of s) (taken (bytes_of s) p)) (a.block at k h)) et
+      (eb ∙ ap (λ (p : Bytes). xor_with (bytes_of s) (taken (bytes_of s) p)) (a.block k h)) et
 
-  pub turn : {b t : Bytes} → r < n - at → b ≡ xor_with (bytes_of s) (taken (bytes_of s) (take r (drop (i at) c))) → t ≡ finish b r more
+  pub turn : {b t : Bytes} → r < n - at → b ≡ xor_with (bytes_of s) (taken (bytes_of s) (take r (drop i c))) → t ≡ finish b r more
       → (end : ℕ) → taken_by r taken more end t (drop (at + r) d) ≡ taken_by r taken more end (bytes_of s) (drop at d)
   turn h eb et end =
       ap₂ (taken_by r taken more end) (absorbed r more (omega arith) (omega arith) eb et) (sym (drop-drop r at d))
       ∙ sym (taken-more r hr taken more end (bytes_of s) (drop at d) (more_left h))
 
-  pub ended : {b : Bytes} → n - at ≤ r → at ≤ n → b ≡ xor_with (bytes_of s) (taken (bytes_of s) (take (n - at) (drop (i at) c)))
+  pub ended : {b : Bytes} → n - at ≤ r → at ≤ n → b ≡ xor_with (bytes_of s) (taken (bytes_of s) (take (n - at) (drop i c)))
       → (end : ℕ) → finish b (n - at) end ≡ taken_by r taken more end (bytes_of s) (drop at d)
   ended h ha eb end =
       absorbed (n - at) end h (omega arith) eb refl
@@ -86,7 +77,7 @@ module _ {taken : Bytes → Bytes → Bytes} (laws : Takes taken) (r : ℕ) (hr 
   module _ {needs : ℕ → ℕ} {put : Bytes → ℕ → Bytes → Bytes} (puts : Puts needs put) {s₀ : State} {o o₁ o₂ : Bytes} {to j : ℕ}
       (w : Written (put_by r taken more) put s₀ d o to s o₁ at) (ho : needs (to + n) ≤ length o) (ej : j ≡ to + at) where
     put_one : (k : ℕ) (y : Bytes) → k ≤ r → at + k ≤ n → put_by r taken more (bytes_of s) (drop at d) ≡ (bytes_of s ⊕₈ take k (drop at d)) ++ y
-        → o₂ ≡ put o₁ j (bytes_of s ⊕₈ take k (drop (i at) c))
+        → o₂ ≡ put o₁ j (bytes_of s ⊕₈ take k (drop i c))
         → (y ≡ drop (at + k) (put_by r taken more (bytes_of s₀) d)) × (o₂ ≡ put o to (take (at + k) (put_by r taken more (bytes_of s₀) d)))
     put_one k y hk h e eo =
         let p : Bytes = take k (drop at d) in
@@ -101,31 +92,39 @@ module _ {taken : Bytes → Bytes → Bytes} (laws : Takes taken) (r : ℕ) (hr 
         let g : drop at z ≡ q ++ y = sym w.left ∙ e in
         let m : needs (to + (length (take at z) + length q)) ≤ needs (to + n) = puts.fewer _ _ (omega arith) in (
           sym (drop_at q y k lq) ∙ ap (drop k) (sym g) ∙ drop-drop k at z,
-          eo ∙ ap₂ (λ (j : ℕ) (b : Bytes). put o₁ j (bytes_of s ⊕₈ b)) (ej ∙ ap (λ (k : ℕ). to + k) (sym lt)) (a.block at k h)
+          eo ∙ ap₂ (λ (j : ℕ) (b : Bytes). put o₁ j (bytes_of s ⊕₈ b)) (ej ∙ ap (λ (k : ℕ). to + k) (sym lt)) (a.block k h)
               ∙ ap (λ (b : Bytes). put b (to + length (take at z)) q) w.put_so_far
               ∙ puts.append o (take at z) q to (omega arith)
               ∙ ap (put o to) (sym (take-add at k z ∙ ap (λ (b : Bytes). take at z ++ b) (ap (take k) g ∙ take_at q y k lq))),
         )
 
-    pub put-turn : (t : State) {b : Bytes} → r < n - at → b ≡ xor_with (bytes_of s) (taken (bytes_of s) (take r (drop (i at) c))) → bytes_of t ≡ finish b r more
-        → o₂ ≡ put o₁ j (bytes_of s ⊕₈ take r (drop (i at) c)) → Written (put_by r taken more) put s₀ d o to t o₂ (at + r)
+    pub put-turn : (t : State) {b : Bytes} → r < n - at → b ≡ xor_with (bytes_of s) (taken (bytes_of s) (take r (drop i c))) → bytes_of t ≡ finish b r more
+        → o₂ ≡ put o₁ j (bytes_of s ⊕₈ take r (drop i c)) → Written (put_by r taken more) put s₀ d o to t o₂ (at + r)
     put-turn t h eb et eo =
         let q = put_one r _ (omega arith) (omega arith) (put-more r hr taken more (bytes_of s) (drop at d) (more_left h)) eo in
         record { left = ap₂ (put_by r taken more) (absorbed r more (omega arith) (omega arith) eb et) (sym (drop-drop r at d)) ∙ q.0; put_so_far = q.1 }
 
-    pub put-end : n - at ≤ r → at ≤ n → o₂ ≡ put o₁ j (bytes_of s ⊕₈ take (n - at) (drop (i at) c)) → o₂ ≡ put o to (put_by r taken more (bytes_of s₀) d)
+    pub put-end : n - at ≤ r → at ≤ n → o₂ ≡ put o₁ j (bytes_of s ⊕₈ take (n - at) (drop i c)) → o₂ ≡ put o to (put_by r taken more (bytes_of s₀) d)
     put-end h ha eo =
         let lz : length (put_by r taken more (bytes_of s₀) d) ≡ n = length-put r hr hs taken more d (bytes_of s₀) (length-bytes s₀) ∙ a.long in
         (put_one (n - at) [] h (omega arith)
         (put-last r hr taken more (bytes_of s) (drop at d) (last-left h) ∙ ap (λ (b : Bytes). bytes_of s ⊕₈ b) (sym all_left) ∙ sym (append-nil _)) eo).1
         ∙ ap (put o to) (take_all (at + (n - at)) (put_by r taken more (bytes_of s₀) d) (omega arith))
 
--- ---- in place
--- b₁ is b with at bytes written at its front. A block of it that begins behind them is copied: it is still that of b
-pub copied : (block b z : Bytes) (at i k j : ℕ) {b₁ block₁ : Bytes} → b₁ ≡ put_bytes b 0 (take at z) → block₁ ≡ put_bytes block 0 (take j (drop i b₁)) → j ≡ k
-    → at ≤ i → i + k ≤ length b → k ≤ length block → take k block₁ ≡ take k (drop i b)
-copied block b z at i k j {b₁} {block₁} eb e ej h hb hk =
-    let l : length (take at z) ≤ at = rw length-take (omega arith) in
-    let d : drop i b₁ ≡ drop i b = ap (drop i) eb ∙ behind-put b 0 (take at z) i (omega arith) (omega arith) in
-    ap (take k) (e ∙ ap₂ (λ (j : ℕ) (d : Bytes). put_bytes block 0 (take j d)) ej d)
-    ∙ take_put block 0 (take k (drop i b)) k (rw (length_part b i k hb) (omega arith)) (omega arith)
+-- ---- of the n bytes from index from on, what is left when those before index at are put
+module _ (taken : Bytes → Bytes → Bytes) (r : ℕ) (hr : 0 < r) (hs : r < 160) (more : ℕ) (bytes : Bytes → Bytes) {needs : ℕ → ℕ} {put : Bytes → ℕ → Bytes → Bytes}
+    (puts : Puts needs put) (from to : ℕ) (u : Unread bytes needs put from to) (n : ℕ) (o : Bytes) (h : from + n ≤ length (bytes o)) (ho : needs (to + n) ≤ length o) where
+  pub left_in : {s₀ s : State} {o₁ : Bytes} (at : ℕ) → at ≤ n → Written (put_by r taken more) put s₀ (take n (drop from (bytes o))) o to s o₁ at
+      → (length (bytes o₁) ≡ length (bytes o)) × Left (bytes o₁) (from + at) n (take n (drop from (bytes o))) at
+  left_in {s₀} at ha w =
+      let d : Bytes = take n (drop from (bytes o)) in
+      let ld : length d ≡ n = length_part (bytes o) from n h in
+      let lz : length (put_by r taken more (bytes_of s₀) d) ≡ n = length-put r hr hs taken more d (bytes_of s₀) (length-bytes s₀) ∙ ld in
+      let m : needs (to + at) ≤ needs (to + n) = puts.fewer (to + at) (to + n) (omega arith) in
+      let e = unread bytes needs put from to u o _ at (length-take-le at _ (omega arith)) w.put_so_far (omega arith) in (
+        e.0,
+        record {
+          long = ld;
+          block = λ k g. ap (take k) (e.1 ∙ sym (drop-drop at from (bytes o))) ∙ sym (part-part (drop from (bytes o)) n at k g);
+        },
+      )

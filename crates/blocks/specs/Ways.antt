@@ -17,6 +17,12 @@ pub record Puts (needs : ℕ → ℕ) (put : Bytes → ℕ → Bytes → Bytes) 
   pub none : (o : Bytes) (to : ℕ) → o ≡ put o to []
   pub append : (o b c : Bytes) (to : ℕ) → needs (to + (length b + length c)) ≤ length o → put (put o to b) (to + length b) c ≡ put o to (b ++ c)
 
+-- where bytes are read from index at on, and as many put from index to on, what is put leaves what is not yet read
+abbrev pub Unread : (Bytes → Bytes) → (ℕ → ℕ) → (Bytes → ℕ → Bytes → Bytes) → ℕ → ℕ → Type 0
+Unread bytes needs put at to =
+    (o b : Bytes) (i j : ℕ) → at ≤ i → i + to ≡ j + at → needs (j + length b) ≤ length o
+    → (length (bytes (put o j b)) ≡ length (bytes o)) × (drop (i + length b) (bytes (put o j b)) ≡ drop (i + length b) (bytes o))
+
 module _ (r : ℕ) (taken : Bytes → Bytes → Bytes) (more : ℕ) where
   -- the state after k full blocks of r bytes with the frame bit `more`, and a last block with the frame bit `end`
   abbrev pub taken_blocks : ℕ → ℕ → Bytes → Bytes → Bytes

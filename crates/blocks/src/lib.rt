@@ -10,11 +10,9 @@ ghost use Rattle.state_bytes.specs.StateBytes.{state_words, state_length, bytes_
 ghost use Rattle.blocks.specs.Lengths.{tag_length, max_key, max_nonce, max_length};
 ghost use Rattle.blocks.specs.Sealing.{◌⊕₈◌, xor_with, keyed, finish, absorb_associated, absorb_message, encrypt, decrypt};
 ghost use Rattle.blocks.specs.Sealing.{ready, sealed, secret_of, ready_of, expected_tag, tag, message_part, tag_part};
-ghost use Rattle.blocks.specs.Ways.{Takes, Puts, taken_by, put_by};
+ghost use Rattle.blocks.specs.Ways.{Takes, Puts, Unread, taken_by, put_by};
 ghost use Rattle.blocks.specs.WayLaws.{seal_takes, open_takes, written_puts, nowhere_puts};
 ghost use Rattle.blocks.specs.Bounds.{Bounded};
-
-use state_bytes::STATE_BYTES;
 
 // The sizes of a variant, in bytes.
 #[derive(Clone, Copy)]
@@ -40,20 +38,21 @@ const SHORT_BLOCK_WORDS: usize = SHORT_BLOCK_BYTES / 8;
 type State = [[u64; 5]; 4];
 
 // ---- what the bytes of a block come from
-// Bytes that are read as numbers, up to eight at a time.
+// Bytes that are read as numbers, up to eight at a time. They may be those of out, into which the bytes of the block go.
 trait Source: Copy {
-    ghost bytes: { Self → Bytes };
+    // The bytes, where those of out are given.
+    ghost bytes: { Self → Bytes → Bytes };
 
     // The number of the l bytes from index at on.
-    fn load(self, at: usize, l: usize) -> u64
-        requires { (l ≤ 8) × (at + l ≤ length (bytes self)) × (at + l < word_range) }
-        ensures { (le l result ≡ take l (drop at (bytes self))) × (result < 256 ^ l) };
+    fn load(self, out: &[u8], at: usize, l: usize) -> u64
+        requires { (l ≤ 8) × (at + l ≤ length (bytes self out.now)) × (at + l < word_range) }
+        ensures { (le l result ≡ take l (drop at (bytes self out.now))) × (result < 256 ^ l) };
 }
 
 impl<'a> Source for &'a [u8] {
-    ghost bytes = { λ d. d.now };
+    ghost bytes = { λ d o. d.now };
 
-    fn load(self, at: usize, l: usize) -> u64 {
+    fn load(self, _out: &[u8], at: usize, l: usize) -> u64 {
         bytes_le::load_le(self, at, l)
     }
 }
@@ -66,9 +65,9 @@ struct Joined<'a> {
 }
 
 impl<'a> Source for Joined<'a> {
-    ghost bytes = { λ d. d.first.now ++ d.second.now };
+    ghost bytes = { λ d o. d.first.now ++ d.second.now };
 
-    fn load(self, at: usize, l: usize) -> u64 {
+    fn load(self, _out: &[u8], at: usize, l: usize) -> u64 {
         if at + l <= self.first.len() {
             return bytes_le::load_le(self.first, at, l);
         }
@@ -76,6 +75,18 @@ impl<'a> Source for Joined<'a> {
             return bytes_le::load_le(self.second, at - self.first.len(), l);
         }
         across(self.first, self.second, at, l)
+    }
+}
+
+// Those of out itself.
+#[derive(Clone, Copy)]
+struct InPlace;
+
+impl Source for InPlace {
+    ghost bytes = { λ d o. o };
+
+    fn load(self, out: &[u8], at: usize, l: usize) -> u64 {
+        bytes_le::load_le(out, at, l)
     }
 }
 
@@ -194,12 +205,12 @@ fn take_word<A: Way, S: Source, K: Sink>(
     out: &mut [u8],
     to: usize,
 )
-    requires { (w < state_words) × (l ≤ 8) × (at + l ≤ length (S.bytes d)) × (at + l < word_range) × (K.needs (to + l) ≤ length out.old) }
+    requires { (w < state_words) × (l ≤ 8) × (at + l ≤ length (S.bytes d out.old)) × (at + l < word_range) × (K.needs (to + l) ≤ length out.old) }
     ensures { (bytes_of s.new ≡ put_bytes (bytes_of s.old) (8 * w)
-        (drop (8 * w) (bytes_of s.old) ⊕₈ A.taken (drop (8 * w) (bytes_of s.old)) (take l (drop at (S.bytes d)))))
-        × (out.new ≡ K.put out.old to (drop (8 * w) (bytes_of s.old) ⊕₈ take l (drop at (S.bytes d)))) }
+        (drop (8 * w) (bytes_of s.old) ⊕₈ A.taken (drop (8 * w) (bytes_of s.old)) (take l (drop at (S.bytes d out.old)))))
+        × (out.new ≡ K.put out.old to (drop (8 * w) (bytes_of s.old) ⊕₈ take l (drop at (S.bytes d out.old)))) }
 {
-    let k = d.load(at, l);
+    let k = d.load(out, at, l);
     let z = state_bytes::word(s, w);
     K::put(out, to, l, z ^ k);
     let x = A::taken(z, k, l);
@@ -215,10 +226,10 @@ fn take_words<A: Way, S: Source, K: Sink>(
     out: &mut [u8],
     to: usize,
 )
-    requires { (n < state_words) × (at + 8 * n ≤ length (S.bytes d)) × (at + 8 * n < word_range)
-        × (K.needs (to + 8 * n) ≤ length out.old) × (to + 8 * n < word_range) }
-    ensures { (bytes_of s.new ≡ xor_with (bytes_of s.old) (A.taken (bytes_of s.old) (take (8 * n) (drop at (S.bytes d)))))
-        × (out.new ≡ K.put out.old to (bytes_of s.old ⊕₈ take (8 * n) (drop at (S.bytes d)))) }
+    requires { (n < state_words) × (at + 8 * n ≤ length (S.bytes d out.old)) × (at + 8 * n < word_range)
+        × (K.needs (to + 8 * n) ≤ length out.old) × (to + 8 * n < word_range) × Unread (S.bytes d) K.needs K.put at to }
+    ensures { (bytes_of s.new ≡ xor_with (bytes_of s.old) (A.taken (bytes_of s.old) (take (8 * n) (drop at (S.bytes d out.old)))))
+        × (out.new ≡ K.put out.old to (bytes_of s.old ⊕₈ take (8 * n) (drop at (S.bytes d out.old)))) }
 {
     for w in 0..n {
         take_word::<A, S, K>(s, w, d, at + 8 * w, 8, out, to + 8 * w);
@@ -234,10 +245,10 @@ fn take_full<A: Way, S: Source, K: Sink>(
     out: &mut [u8],
     to: usize,
 )
-    requires { (n < state_words) × (at + 8 * n ≤ length (S.bytes d)) × (at + 8 * n < word_range)
-        × (K.needs (to + 8 * n) ≤ length out.old) × (to + 8 * n < word_range) }
-    ensures { (bytes_of s.new ≡ xor_with (bytes_of s.old) (A.taken (bytes_of s.old) (take (8 * n) (drop at (S.bytes d)))))
-        × (out.new ≡ K.put out.old to (bytes_of s.old ⊕₈ take (8 * n) (drop at (S.bytes d)))) }
+    requires { (n < state_words) × (at + 8 * n ≤ length (S.bytes d out.old)) × (at + 8 * n < word_range)
+        × (K.needs (to + 8 * n) ≤ length out.old) × (to + 8 * n < word_range) × Unread (S.bytes d) K.needs K.put at to }
+    ensures { (bytes_of s.new ≡ xor_with (bytes_of s.old) (A.taken (bytes_of s.old) (take (8 * n) (drop at (S.bytes d out.old)))))
+        × (out.new ≡ K.put out.old to (bytes_of s.old ⊕₈ take (8 * n) (drop at (S.bytes d out.old)))) }
 {
     if n == BLOCK_WORDS {
         return take_words::<A, S, K>(s, d, at, BLOCK_WORDS, out, to);
@@ -257,10 +268,10 @@ fn take_bytes<A: Way, S: Source, K: Sink>(
     out: &mut [u8],
     to: usize,
 )
-    requires { (n < state_length) × (at + n ≤ length (S.bytes d)) × (at + n < word_range)
-        × (K.needs (to + n) ≤ length out.old) × (to + n < word_range) }
-    ensures { (bytes_of s.new ≡ xor_with (bytes_of s.old) (A.taken (bytes_of s.old) (take n (drop at (S.bytes d)))))
-        × (out.new ≡ K.put out.old to (bytes_of s.old ⊕₈ take n (drop at (S.bytes d)))) }
+    requires { (n < state_length) × (at + n ≤ length (S.bytes d out.old)) × (at + n < word_range)
+        × (K.needs (to + n) ≤ length out.old) × (to + n < word_range) × Unread (S.bytes d) K.needs K.put at to }
+    ensures { (bytes_of s.new ≡ xor_with (bytes_of s.old) (A.taken (bytes_of s.old) (take n (drop at (S.bytes d out.old)))))
+        × (out.new ≡ K.put out.old to (bytes_of s.old ⊕₈ take n (drop at (S.bytes d out.old)))) }
 {
     let w = n / 8;
     take_words::<A, S, K>(s, d, at, w, out, to);
@@ -344,11 +355,11 @@ fn take_blocks<A: Way, S: Source, K: Sink>(
     out: &mut [u8],
     to: usize,
 ) -> usize
-    requires { (0 < n) × (n < state_words) × (more < 2) × (from + l ≤ length (S.bytes d)) × (from + l < word_range)
-        × (K.needs (to + l) ≤ length out.old) × (to + l < word_range) }
+    requires { (0 < n) × (n < state_words) × (more < 2) × (from + l ≤ length (S.bytes d out.old)) × (from + l < word_range)
+        × (K.needs (to + l) ≤ length out.old) × (to + l < word_range) × Unread (S.bytes d) K.needs K.put from to }
     ensures { (result ≤ 8 * n)
-        × ((end : ℕ) → finish (bytes_of s.new) result end ≡ taken_by (8 * n) A.taken more end (bytes_of s.old) (take l (drop from (S.bytes d))))
-        × (out.new ≡ K.put out.old to (put_by (8 * n) A.taken more (bytes_of s.old) (take l (drop from (S.bytes d))))) }
+        × ((end : ℕ) → finish (bytes_of s.new) result end ≡ taken_by (8 * n) A.taken more end (bytes_of s.old) (take l (drop from (S.bytes d out.old))))
+        × (out.new ≡ K.put out.old to (put_by (8 * n) A.taken more (bytes_of s.old) (take l (drop from (S.bytes d out.old))))) }
 {
     let block = 8 * n;
     let mut at: usize = 0;
@@ -408,24 +419,13 @@ pub fn decrypt_message(s: &mut State, n: usize, c: &[u8], from: usize, l: usize,
     take_blocks::<Open, &[u8], Written>(s, n, 1, c, from, l, out, 0);
 }
 
-// The same where the ciphertext stands in out itself, here b. Each block is copied before its message is put. The message stands `from` bytes before its ciphertext,
-// so that a block's message ends where the next block begins, or before.
+// The same where the ciphertext stands in out itself, here b. A word's message stands `from` bytes before its ciphertext, so that it is put over none that is not yet
+// read.
 pub fn decrypt_in_place(s: &mut State, n: usize, b: &mut [u8], from: usize, l: usize)
     requires { (0 < n) × (n < state_words) × (from + l ≤ length b.old) }
     ensures { b.new ≡ put_bytes b.old 0 (decrypt (8 * n) (bytes_of s.old) (take l (drop from b.old))) }
 {
-    let r = 8 * n;
-    let mut block = [0u8; STATE_BYTES];
-    let mut at: usize = 0;
-    while r < l - at {
-        let c = from + at;
-        bytes_le::put_bytes(&mut block, 0, &b[c..c + r]);
-        take_full::<Open, &[u8], Written>(s, &block, 0, n, b, at);
-        finish(s, r, 1);
-        at += r;
-    }
-    bytes_le::put_bytes(&mut block, 0, &b[from + at..from + l]);
-    take_bytes::<Open, &[u8], Written>(s, &block, 0, l - at, b, at);
+    take_blocks::<Open, InPlace, Written>(s, n, 1, InPlace, from, l, b, 0);
 }
 
 // ---- whole messages, whose sizes fit

@@ -11,7 +11,7 @@ use Rattle.blocks.proofs.take_blocks.Given as goal
 
 abbrev pub invariant-loop-at : goal.invariant-loop-at
 invariant-loop-at g l =
-    let d : Bytes = take l.l (drop l.from (g.S.Source.bytes l.d)) in
+    let d : Bytes = take l.l (drop l.from (g.S.Source.bytes l.d l.initial.out)) in
     (l.at ≤ l.l)
     × ((end : ℕ) → taken_by l.block g.A.Way.taken l.more end (bytes_of l.s) (drop l.at d) ≡ taken_by l.block g.A.Way.taken l.more end (bytes_of l.initial.s) d)
     × Written (put_by l.block g.A.Way.taken l.more) g.K.Sink.put l.initial.s d l.initial.out l.to l.s l.out l.at

@@ -16,6 +16,6 @@ returns g c =
     let z = c.word-z in
     let k = c.load-k in
     let x = c.taken-x in
-    let e = taken-word g.met.A.Way.laws (bytes_of a.s.now) (8 * a.w) a.l z.result k.result x.result (take a.l (drop a.at (g.S.Source.bytes a.d)))
+    let e = taken-word g.met.A.Way.laws (bytes_of a.s.now) (8 * a.w) a.l z.result k.result x.result (take a.l (drop a.at (g.S.Source.bytes a.d a.out.now)))
     c.requires.1 (omega arith) z.ensures k.ensures x.ensures in
     (c.set_word.ensures ∙ e.0, c.put.ensures ∙ ap (g.K.Sink.put a.out.now a.to) e.1)

@@ -5,19 +5,29 @@ use Prim.Native.Nat.{◌+◌, ◌*◌}
 use native.Mathlib.Omega.{arith}
 use Rattle.state_bytes.specs.StateBytes.{bytes_of}
 use Rattle.state_bytes.proofs.Lengths.{length-bytes}
-use Rattle.blocks.proofs.Full.{none_yet, one-more}
+use Rattle.blocks.proofs.Full.{none_yet, one-more, still}
 use Rattle.blocks.proofs.take_words.Goals as goal
 
 pub loop-w-init : goal.loop-w-init
 loop-w-init g c = none_yet g.met.A.Way.laws g.met.K.Sink.laws (bytes_of c.args.s.now) c.args.out.now c.args.to
+
+pub take_word-requires : goal.take_word-requires
+take_word-requires g c =
+    let a = c.args in
+    let w = c.loop-w.w in
+    let m = g.met.K.Sink.laws.fewer (a.to + 8 * (w + 1)) (a.to + 8 * a.n) (omega arith) in
+    let k = g.met.K.Sink.laws.fewer (a.to + 8 * w + 8) (a.to + 8 * a.n) (omega arith) in
+    let e = still g.met.A.Way.laws (g.S.Source.bytes a.d) g.met.K.Sink.laws a.at a.to c.requires.5 (8 * w) 8 (8 * (w + 1)) (omega arith) a.out.now (omega arith) (omega (arith, m))
+    (bytes_of a.s.now) (rw length-bytes (omega arith)) c.loop-w.invariant.1 in
+    (omega arith, omega arith, omega (arith, e.0), omega arith, omega (arith, k, c.requires.3))
 
 pub loop-w-preserved : goal.loop-w-preserved
 loop-w-preserved g c =
     let a = c.args in
     let w = c.loop-w.w in
     let m = g.met.K.Sink.laws.fewer (a.to + 8 * (w + 1)) (a.to + 8 * a.n) (omega arith) in
-    one-more g.met.A.Way.laws g.met.K.Sink.laws (g.S.Source.bytes a.d) a.at (8 * w) 8 (8 * (w + 1)) (omega arith) (omega arith)
-    (bytes_of a.s.now) (rw length-bytes (omega arith)) a.out.now a.to (omega (arith, m, c.requires.3)) c.loop-w.invariant c.take_word.ensures
+    one-more g.met.A.Way.laws (g.S.Source.bytes a.d) g.met.K.Sink.laws a.at a.to c.requires.5 (8 * w) 8 (8 * (w + 1)) (omega arith) a.out.now (omega arith) (omega (arith, m, c.requires.3))
+    (bytes_of a.s.now) (rw length-bytes (omega arith)) c.loop-w.invariant.1 c.loop-w.invariant.0 c.take_word.ensures
 
 pub returns : goal.returns
 returns g c =
