@@ -5,13 +5,14 @@ use mathlib.Core.List.{[], ◌∷◌, ◌++◌}
 use Prim.Native.Nat.{ℕ, ◌+◌, ◌≤◌}
 use native.Mathlib.Nat.{le_refl}
 use native.Mathlib.Omega.{arith}
+use Rattle.std.proofs.lemmas.List.{nil_from_length}
 use lib.ListN.{length, take, drop, length-drop}
 use lib.Seq.{drop-drop, take-add}
 use Rattle.bytes_le.specs.Bytes.{Bytes, put_bytes}
 use Rattle.bytes_le.proofs.Laws.{length_part}
 use Rattle.blocks.specs.Sealing.{◌⊕₈◌, xor_with}
 use Rattle.blocks.specs.Ways.{Puts, Takes, Unread}
-use Rattle.blocks.specs.WayLaws.{length-xor, xor-append, xor-front, xor-none}
+use Rattle.blocks.specs.WayLaws.{length-xor, xor-append, xor-none}
 use Rattle.blocks.proofs.Runs.{xor-with-run}
 
 -- the bytes past those that were xored stay
@@ -29,17 +30,7 @@ module _ (v x t : Bytes) (j : ℕ) (hx : length x ≡ j) (et : t ≡ xor_with v 
   next : (y t₁ : Bytes) → j + length y ≤ length v → t₁ ≡ put_bytes t j (drop j t ⊕₈ y) → t₁ ≡ xor_with v (x ++ y)
   next y t₁ h e =
       e ∙ ap₂ (λ (b : Bytes) (k : ℕ). put_bytes b k (drop k b ⊕₈ y)) et (sym hx)
-      ∙ ap (put_bytes (xor_with v x) (length x)) (sym (xor-front (drop (length x) (xor_with v x)) y (length y) (le_refl (length y))))
       ∙ xor-with-run v x y (omega arith)
-
--- nothing is xored in
-xor-with-none : (v : Bytes) → v ≡ xor_with v []
-xor-with-none [] = refl
-xor-with-none (x ∷ v) = refl
-
-no-bytes : (b : Bytes) → length b ≡ 0 → b ≡ []
-no-bytes [] e = refl
-no-bytes (x ∷ b) e = absurd (omega arith)
 
 -- l bytes of d, from index i on
 abbrev part : Bytes → ℕ → ℕ → Bytes
@@ -61,8 +52,8 @@ module _ (bytes : Bytes → Bytes) (needs : ℕ → ℕ) (put : Bytes → ℕ �
 pub none_yet : {taken : Bytes → Bytes → Bytes} → Takes taken → {needs : ℕ → ℕ} {put : Bytes → ℕ → Bytes → Bytes} → Puts needs put → (v o : Bytes) (to : ℕ)
     → (v ≡ xor_with v (taken v [])) × (o ≡ put o to (v ⊕₈ []))
 none_yet {taken} laws {needs} {put} puts v o to =
-    let e : taken v [] ≡ [] = no-bytes (taken v []) (laws.sized v [] (omega arith)) in
-    (xor-with-none v ∙ ap (xor_with v) (sym e), puts.none o to ∙ ap (put o to) (sym (xor-none v)))
+    let e : taken v [] ≡ [] = nil_from_length (taken v []) (laws.sized v [] (omega arith)) in
+    (ap (xor_with v) (sym e), puts.none o to ∙ ap (put o to) (sym (xor-none v)))
 
 -- ---- of n bytes, the first j are taken and put, and the other l are those of the next word
 module _ {taken : Bytes → Bytes → Bytes} (laws : Takes taken) (bytes : Bytes → Bytes) {needs : ℕ → ℕ} {put : Bytes → ℕ → Bytes → Bytes} (puts : Puts needs put)

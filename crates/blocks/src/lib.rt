@@ -196,7 +196,7 @@ fn low_bytes(x: u64, l: usize) -> u64
 
 // ---- the bytes of a block, by all three: they are read in d from index at on, and put into out from index to on
 // l of them, at word w.
-fn take_word<A: Way, S: Source, K: Sink>(
+fn take_word<A: Way, K: Sink, S: Source>(
     s: &mut State,
     w: usize,
     d: S,
@@ -218,7 +218,7 @@ fn take_word<A: Way, S: Source, K: Sink>(
 }
 
 // n whole words, from word 0 on.
-fn take_words<A: Way, S: Source, K: Sink>(
+fn take_words<A: Way, K: Sink, S: Source>(
     s: &mut State,
     d: S,
     at: usize,
@@ -232,12 +232,12 @@ fn take_words<A: Way, S: Source, K: Sink>(
         × (out.new ≡ K.put out.old to (bytes_of s.old ⊕₈ take (8 * n) (drop at (S.bytes d out.old)))) }
 {
     for w in 0..n {
-        take_word::<A, S, K>(s, w, d, at + 8 * w, 8, out, to + 8 * w);
+        take_word::<A, K, _>(s, w, d, at + 8 * w, 8, out, to + 8 * w);
     }
 }
 
 // The same, with the count of words known to the compiler where it is that of a variant.
-fn take_full<A: Way, S: Source, K: Sink>(
+fn take_full<A: Way, K: Sink, S: Source>(
     s: &mut State,
     d: S,
     at: usize,
@@ -251,16 +251,16 @@ fn take_full<A: Way, S: Source, K: Sink>(
         × (out.new ≡ K.put out.old to (bytes_of s.old ⊕₈ take (8 * n) (drop at (S.bytes d out.old)))) }
 {
     if n == BLOCK_WORDS {
-        return take_words::<A, S, K>(s, d, at, BLOCK_WORDS, out, to);
+        return take_words::<A, K, _>(s, d, at, BLOCK_WORDS, out, to);
     }
     if n == SHORT_BLOCK_WORDS {
-        return take_words::<A, S, K>(s, d, at, SHORT_BLOCK_WORDS, out, to);
+        return take_words::<A, K, _>(s, d, at, SHORT_BLOCK_WORDS, out, to);
     }
-    take_words::<A, S, K>(s, d, at, n, out, to)
+    take_words::<A, K, _>(s, d, at, n, out, to)
 }
 
 // n bytes, from byte 0 on: whole words, then what is left.
-fn take_bytes<A: Way, S: Source, K: Sink>(
+fn take_bytes<A: Way, K: Sink, S: Source>(
     s: &mut State,
     d: S,
     at: usize,
@@ -274,8 +274,8 @@ fn take_bytes<A: Way, S: Source, K: Sink>(
         × (out.new ≡ K.put out.old to (bytes_of s.old ⊕₈ take n (drop at (S.bytes d out.old)))) }
 {
     let w = n / 8;
-    take_words::<A, S, K>(s, d, at, w, out, to);
-    take_word::<A, S, K>(s, w, d, at + 8 * w, n % 8, out, to + 8 * w);
+    take_words::<A, K, _>(s, d, at, w, out, to);
+    take_word::<A, K, _>(s, w, d, at + 8 * w, n % 8, out, to + 8 * w);
 }
 
 // The bytes of a message are xored in; the ciphertext, which stands in the state then, is put into out from index to on. First whole words, then any bytes.
@@ -284,7 +284,7 @@ pub fn encrypt_words(s: &mut State, m: &[u8], at: usize, n: usize, out: &mut [u8
     ensures { (bytes_of s.new ≡ xor_with (bytes_of s.old) (take (8 * n) (drop at m.now)))
         × (out.new ≡ put_bytes out.old to (bytes_of s.old ⊕₈ take (8 * n) (drop at m.now))) }
 {
-    take_words::<Seal, &[u8], Written>(s, m, at, n, out, to)
+    take_words::<Seal, Written, _>(s, m, at, n, out, to)
 }
 
 pub fn encrypt_bytes(s: &mut State, m: &[u8], at: usize, n: usize, out: &mut [u8], to: usize)
@@ -292,7 +292,7 @@ pub fn encrypt_bytes(s: &mut State, m: &[u8], at: usize, n: usize, out: &mut [u8
     ensures { (bytes_of s.new ≡ xor_with (bytes_of s.old) (take n (drop at m.now)))
         × (out.new ≡ put_bytes out.old to (bytes_of s.old ⊕₈ take n (drop at m.now))) }
 {
-    take_bytes::<Seal, &[u8], Written>(s, m, at, n, out, to)
+    take_bytes::<Seal, Written, _>(s, m, at, n, out, to)
 }
 
 // The end of a block of n bytes: the frame bit and the 1 are added, then P6.
@@ -318,7 +318,7 @@ fn keyed_state(s: &mut State, key: &[u8], nonce: &[u8])
         first: key,
         second: nonce,
     };
-    take_bytes::<Seal, Joined, Nowhere>(s, d, 0, key.len() + nonce.len(), &mut [], 0);
+    take_bytes::<Seal, Nowhere, _>(s, d, 0, key.len() + nonce.len(), &mut [], 0);
     state_bytes::permute12(s);
 }
 
@@ -345,7 +345,7 @@ pub fn put_tag(s: &State, out: &mut [u8], at: usize)
 
 // ---- data in blocks of n words
 // The l bytes of d from index from on, block by block; each but the last is finished with the frame bit more. Returns how many bytes the last has.
-fn take_blocks<A: Way, S: Source, K: Sink>(
+fn take_blocks<A: Way, K: Sink, S: Source>(
     s: &mut State,
     n: usize,
     more: u64,
@@ -364,11 +364,11 @@ fn take_blocks<A: Way, S: Source, K: Sink>(
     let block = 8 * n;
     let mut at: usize = 0;
     while block < l - at {
-        take_full::<A, S, K>(s, d, from + at, n, out, to + at);
+        take_full::<A, K, _>(s, d, from + at, n, out, to + at);
         finish(s, block, more);
         at += block;
     }
-    take_bytes::<A, S, K>(s, d, from + at, l - at, out, to + at);
+    take_bytes::<A, K, _>(s, d, from + at, l - at, out, to + at);
     l - at
 }
 
@@ -378,7 +378,7 @@ fn absorb_associated(s: &mut State, n: usize, first: &[u8], second: &[u8])
     ensures { bytes_of s.new ≡ absorb_associated (8 * n) (bytes_of s.old) (first.now ++ second.now) }
 {
     let d = Joined { first, second };
-    let last = take_blocks::<Seal, Joined, Nowhere>(
+    let last = take_blocks::<Seal, Nowhere, _>(
         s,
         n,
         0,
@@ -397,7 +397,7 @@ fn encrypt_message(s: &mut State, n: usize, m: &[u8], out: &mut [u8], to: usize)
     ensures { (bytes_of s.new ≡ absorb_message (8 * n) (bytes_of s.old) m.now)
         × (out.new ≡ put_bytes out.old to (encrypt (8 * n) (bytes_of s.old) m.now)) }
 {
-    let last = take_blocks::<Seal, &[u8], Written>(s, n, 1, m, 0, m.len(), out, to);
+    let last = take_blocks::<Seal, Written, _>(s, n, 1, m, 0, m.len(), out, to);
     finish(s, last, 0);
 }
 
@@ -407,7 +407,7 @@ fn verify_message(s: &mut State, n: usize, c: &[u8], from: usize, l: usize)
     ensures { bytes_of s.new ≡ absorb_message (8 * n) (bytes_of s.old)
         (decrypt (8 * n) (bytes_of s.old) (take l (drop from c.now))) }
 {
-    let end = take_blocks::<Open, &[u8], Nowhere>(s, n, 1, c, from, l, &mut [], 0);
+    let end = take_blocks::<Open, Nowhere, _>(s, n, 1, c, from, l, &mut [], 0);
     finish(s, end, 0);
 }
 
@@ -416,7 +416,7 @@ pub fn decrypt_message(s: &mut State, n: usize, c: &[u8], from: usize, l: usize,
     requires { (0 < n) × (n < state_words) × (from + l ≤ length c.now) × (l ≤ length out.old) }
     ensures { out.new ≡ put_bytes out.old 0 (decrypt (8 * n) (bytes_of s.old) (take l (drop from c.now))) }
 {
-    take_blocks::<Open, &[u8], Written>(s, n, 1, c, from, l, out, 0);
+    take_blocks::<Open, Written, _>(s, n, 1, c, from, l, out, 0);
 }
 
 // The same where the ciphertext stands in out itself, here b. A word's message stands `from` bytes before its ciphertext, so that it is put over none that is not yet
@@ -425,7 +425,7 @@ pub fn decrypt_in_place(s: &mut State, n: usize, b: &mut [u8], from: usize, l: u
     requires { (0 < n) × (n < state_words) × (from + l ≤ length b.old) }
     ensures { b.new ≡ put_bytes b.old 0 (decrypt (8 * n) (bytes_of s.old) (take l (drop from b.old))) }
 {
-    take_blocks::<Open, InPlace, Written>(s, n, 1, InPlace, from, l, b, 0);
+    take_blocks::<Open, Written, _>(s, n, 1, InPlace, from, l, b, 0);
 }
 
 // ---- whole messages, whose sizes fit
@@ -448,7 +448,7 @@ fn ready<A: Way>(
 {
     let n = q.secret;
     keyed_state(s, key, nonce);
-    take_bytes::<A, &[u8], Written>(s, d, 0, n, out, 0);
+    take_bytes::<A, Written, _>(s, d, 0, n, out, 0);
     finish(s, n, 0);
     absorb_associated(s, q.block / 8, first, second);
 }

@@ -8,19 +8,6 @@ use lib.Seq.{length-take-le}
 use Rattle.blocks.proofs.Words.{across-run}
 use Rattle.blocks.proofs.across.Goals as goal
 
-pub slice_bounds-put_bytes-length-2 : goal.slice_bounds-put_bytes-length-2
-slice_bounds-put_bytes-length-2 c =
-    let a = c.args in
-    let h : a.l - (length a.first.now - a.at) ≤ length a.second.now = omega arith in
-    sym (length-take-le _ a.second.now h)
-
-pub put_bytes-requires-2 : goal.put_bytes-requires-2
-put_bytes-requires-2 c =
-    let a = c.args in
-    let h : a.l - (length a.first.now - a.at) ≤ length a.second.now = omega arith in
-    let e : length (take (a.l - (length a.first.now - a.at)) a.second.now) ≡ a.l - (length a.first.now - a.at) = length-take-le _ a.second.now h in
-    omega (arith, c.put_bytes.auto.out)
-
 pub returns : goal.returns
 returns c =
     let a = c.args in

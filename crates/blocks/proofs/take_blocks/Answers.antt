@@ -7,9 +7,6 @@ use Rattle.blocks.proofs.Full.{unread-from}
 use Rattle.blocks.proofs.Turns.{ended, left_in, none_put, put-end, put-turn, turn}
 use Rattle.blocks.proofs.take_blocks.Goals as goal
 
-pub loop-at-init : goal.loop-at-init
-loop-at-init g c = (omega arith, λ end. refl, none_put g.met.K.Sink.laws _ _ _ _ _)
-
 pub take_full-requires : goal.take_full-requires
 take_full-requires g c =
     let a = c.args in

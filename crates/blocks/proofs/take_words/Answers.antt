@@ -28,8 +28,3 @@ loop-w-preserved g c =
     let m = g.met.K.Sink.laws.fewer (a.to + 8 * (w + 1)) (a.to + 8 * a.n) (omega arith) in
     one-more g.met.A.Way.laws (g.S.Source.bytes a.d) g.met.K.Sink.laws a.at a.to c.requires.5 (8 * w) 8 (8 * (w + 1)) (omega arith) a.out.now (omega arith) (omega (arith, m, c.requires.3))
     (bytes_of a.s.now) (rw length-bytes (omega arith)) c.loop-w.invariant.1 c.loop-w.invariant.0 c.take_word.ensures
-
-pub returns : goal.returns
-returns g c =
-    let e : c.loop-w.w ≡ c.args.n = omega arith in
-    rw e at c.loop-w.invariant
