@@ -1,7 +1,8 @@
 -- What absorbing, sealing and opening have in common (003, 2.6 to 2.9). Of the bytes b of a block, at the state v, `taken v b` is xored into v: b itself, or for a
 -- ciphertext the message, v ⊕₈ b. What is put out, if anything is, is v ⊕₈ b.
 -- Assumes nothing.
-use Rattle.std.specs.Prelude.{◌≡◌, [], ◌++◌, ℕ, zero, suc, ◌+◌, ◌≤◌, length, take, drop}
+use Rattle.std.specs.Prelude.{◌≡◌, [], ◌++◌, ℕ, zero, suc, ◌+◌, ◌≤◌, ◌<◌, length, take, drop}
+use Rattle.bits.specs.Bits.{word_range}
 use Rattle.bytes_le.specs.Bytes.{Bytes}
 use Rattle.blocks.specs.Sealing.{◌⊕₈◌, absorb, blocks_before}
 
@@ -22,6 +23,11 @@ abbrev pub Unread : (Bytes → Bytes) → (ℕ → ℕ) → (Bytes → ℕ → B
 Unread bytes needs put at to =
     (o b : Bytes) (i j : ℕ) → at ≤ i → i + to ≡ j + at → needs (j + length b) ≤ length o
     → (length (bytes (put o j b)) ≡ length (bytes o)) × (drop (i + length b) (bytes (put o j b)) ≡ drop (i + length b) (bytes o))
+
+-- n bytes can be read from index at on and put from index to on into out
+abbrev pub Room : (Bytes → Bytes) → (ℕ → ℕ) → (Bytes → ℕ → Bytes → Bytes) → ℕ → ℕ → Bytes → ℕ → Type 0
+Room bytes needs put at n out to =
+    (at + n ≤ length (bytes out)) × (at + n < word_range) × (needs (to + n) ≤ length out) × (to + n < word_range) × Unread bytes needs put at to
 
 module _ (r : ℕ) (taken : Bytes → Bytes → Bytes) (more : ℕ) where
   -- the state after k full blocks of r bytes with the frame bit `more`, and a last block with the frame bit `end`

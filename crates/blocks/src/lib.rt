@@ -10,7 +10,7 @@ ghost use Rattle.state_bytes.specs.StateBytes.{state_words, state_length, bytes_
 ghost use Rattle.blocks.specs.Lengths.{tag_length, max_key, max_nonce, max_length};
 ghost use Rattle.blocks.specs.Sealing.{◌⊕₈◌, xor_with, keyed, finish, absorb_associated, absorb_message, encrypt, decrypt};
 ghost use Rattle.blocks.specs.Sealing.{ready, sealed, secret_of, ready_of, expected_tag, tag, message_part, tag_part};
-ghost use Rattle.blocks.specs.Ways.{Takes, Puts, Unread, taken_by, put_by};
+ghost use Rattle.blocks.specs.Ways.{Takes, Puts, Room, taken_by, put_by};
 ghost use Rattle.blocks.specs.WayLaws.{seal_takes, open_takes, written_puts, nowhere_puts};
 ghost use Rattle.blocks.specs.Bounds.{Bounded};
 
@@ -226,8 +226,7 @@ fn take_words<A: Way, K: Sink, S: Source>(
     out: &mut [u8],
     to: usize,
 )
-    requires { (n < state_words) × (at + 8 * n ≤ length (S.bytes d out.old)) × (at + 8 * n < word_range)
-        × (K.needs (to + 8 * n) ≤ length out.old) × (to + 8 * n < word_range) × Unread (S.bytes d) K.needs K.put at to }
+    requires { (n < state_words) × Room (S.bytes d) K.needs K.put at (8 * n) out.old to }
     ensures { (bytes_of s.new ≡ xor_with (bytes_of s.old) (A.taken (bytes_of s.old) (take (8 * n) (drop at (S.bytes d out.old)))))
         × (out.new ≡ K.put out.old to (bytes_of s.old ⊕₈ take (8 * n) (drop at (S.bytes d out.old)))) }
 {
@@ -245,8 +244,7 @@ fn take_full<A: Way, K: Sink, S: Source>(
     out: &mut [u8],
     to: usize,
 )
-    requires { (n < state_words) × (at + 8 * n ≤ length (S.bytes d out.old)) × (at + 8 * n < word_range)
-        × (K.needs (to + 8 * n) ≤ length out.old) × (to + 8 * n < word_range) × Unread (S.bytes d) K.needs K.put at to }
+    requires { (n < state_words) × Room (S.bytes d) K.needs K.put at (8 * n) out.old to }
     ensures { (bytes_of s.new ≡ xor_with (bytes_of s.old) (A.taken (bytes_of s.old) (take (8 * n) (drop at (S.bytes d out.old)))))
         × (out.new ≡ K.put out.old to (bytes_of s.old ⊕₈ take (8 * n) (drop at (S.bytes d out.old)))) }
 {
@@ -268,8 +266,7 @@ fn take_bytes<A: Way, K: Sink, S: Source>(
     out: &mut [u8],
     to: usize,
 )
-    requires { (n < state_length) × (at + n ≤ length (S.bytes d out.old)) × (at + n < word_range)
-        × (K.needs (to + n) ≤ length out.old) × (to + n < word_range) × Unread (S.bytes d) K.needs K.put at to }
+    requires { (n < state_length) × Room (S.bytes d) K.needs K.put at n out.old to }
     ensures { (bytes_of s.new ≡ xor_with (bytes_of s.old) (A.taken (bytes_of s.old) (take n (drop at (S.bytes d out.old)))))
         × (out.new ≡ K.put out.old to (bytes_of s.old ⊕₈ take n (drop at (S.bytes d out.old)))) }
 {
@@ -355,8 +352,7 @@ fn take_blocks<A: Way, K: Sink, S: Source>(
     out: &mut [u8],
     to: usize,
 ) -> usize
-    requires { (0 < n) × (n < state_words) × (more < 2) × (from + l ≤ length (S.bytes d out.old)) × (from + l < word_range)
-        × (K.needs (to + l) ≤ length out.old) × (to + l < word_range) × Unread (S.bytes d) K.needs K.put from to }
+    requires { (0 < n) × (n < state_words) × (more < 2) × Room (S.bytes d) K.needs K.put from l out.old to }
     ensures { (result ≤ 8 * n)
         × ((end : ℕ) → finish (bytes_of s.new) result end ≡ taken_by (8 * n) A.taken more end (bytes_of s.old) (take l (drop from (S.bytes d out.old))))
         × (out.new ≡ K.put out.old to (put_by (8 * n) A.taken more (bytes_of s.old) (take l (drop from (S.bytes d out.old))))) }

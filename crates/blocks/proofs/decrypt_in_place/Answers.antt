@@ -14,11 +14,7 @@ take_blocks-requires c = (
   c.requires.0,
   c.requires.1,
   omega arith,
-  c.requires.2,
-  omega arith,
-  omega arith,
-  omega arith,
-  λ o b i j h e k. (length-put o j b k, behind-put o j b (i + length b) (omega arith) (omega arith)),
+  (c.requires.2, omega arith, omega arith, omega arith, λ o b i j h e k. (length-put o j b k, behind-put o j b (i + length b) (omega arith) (omega arith))),
 )
 
 pub returns : goal.returns

@@ -17,14 +17,14 @@ take_word-requires g c =
     let w = c.loop-w.w in
     let m = g.met.K.Sink.laws.fewer (a.to + 8 * (w + 1)) (a.to + 8 * a.n) (omega arith) in
     let k = g.met.K.Sink.laws.fewer (a.to + 8 * w + 8) (a.to + 8 * a.n) (omega arith) in
-    let e = still g.met.A.Way.laws (g.S.Source.bytes a.d) g.met.K.Sink.laws a.at a.to c.requires.5 (8 * w) 8 (8 * (w + 1)) (omega arith) a.out.now (omega arith) (omega (arith, m))
+    let e = still g.met.A.Way.laws (g.S.Source.bytes a.d) g.met.K.Sink.laws a.at a.to c.requires.1.4 (8 * w) 8 (8 * (w + 1)) (omega arith) a.out.now (omega arith) (omega (arith, m, c.requires.1.2))
     (bytes_of a.s.now) (rw length-bytes (omega arith)) c.loop-w.invariant.1 in
-    (omega arith, omega arith, omega (arith, e.0), omega arith, omega (arith, k, c.requires.3))
+    (omega arith, omega arith, omega (arith, e.0), omega arith, omega (arith, k, c.requires.1.2))
 
 pub loop-w-preserved : goal.loop-w-preserved
 loop-w-preserved g c =
     let a = c.args in
     let w = c.loop-w.w in
     let m = g.met.K.Sink.laws.fewer (a.to + 8 * (w + 1)) (a.to + 8 * a.n) (omega arith) in
-    one-more g.met.A.Way.laws (g.S.Source.bytes a.d) g.met.K.Sink.laws a.at a.to c.requires.5 (8 * w) 8 (8 * (w + 1)) (omega arith) a.out.now (omega arith) (omega (arith, m, c.requires.3))
+    one-more g.met.A.Way.laws (g.S.Source.bytes a.d) g.met.K.Sink.laws a.at a.to c.requires.1.4 (8 * w) 8 (8 * (w + 1)) (omega arith) a.out.now (omega arith) (omega (arith, m, c.requires.1.2))
     (bytes_of a.s.now) (rw length-bytes (omega arith)) c.loop-w.invariant.1 c.loop-w.invariant.0 c.take_word.ensures
