@@ -11,7 +11,7 @@ use lib.Seq.{drop-drop, take-add}
 use Rattle.bytes_le.specs.Bytes.{Bytes, put_bytes}
 use Rattle.bytes_le.proofs.Laws.{length_part}
 use Rattle.blocks.specs.Sealing.{◌⊕₈◌, xor_with}
-use Rattle.blocks.specs.Ways.{Puts, Takes, Unread}
+use Rattle.blocks.specs.Ways.{Puts, Room, Takes}
 use Rattle.blocks.specs.WayLaws.{length-xor, xor-append, xor-none}
 use Rattle.blocks.proofs.Runs.{xor-with-run}
 
@@ -39,14 +39,21 @@ part d i l = take l (drop i d)
 part-more : (d : Bytes) (i j l n : ℕ) → j + l ≡ n → part d i n ≡ part d i j ++ part d (i + j) l
 part-more d i j l n e = ap (part d i) (sym e) ∙ take-add j l (drop i d) ∙ ap (λ (b : Bytes). part d i j ++ take l b) (drop-drop j i d)
 
--- what is not yet read, after x is put
-module _ (bytes : Bytes → Bytes) (needs : ℕ → ℕ) (put : Bytes → ℕ → Bytes → Bytes) (at to : ℕ) (u : Unread bytes needs put at to) where
-  pub unread : (o x : Bytes) (k : ℕ) {o₁ : Bytes} → length x ≡ k → o₁ ≡ put o to x → needs (to + k) ≤ length o
-      → (length (bytes o₁) ≡ length (bytes o)) × (drop (at + k) (bytes o₁) ≡ drop (at + k) (bytes o))
-  unread o x k e eo h = rw (e, sym eo) at (u o x at to (le_refl at) (omega arith) (rw e h))
+-- ---- room for n bytes, of which the first j are put: x
+module _ (bytes : Bytes → Bytes) {needs : ℕ → ℕ} {put : Bytes → ℕ → Bytes → Bytes} (puts : Puts needs put) (at n to : ℕ) (o : Bytes) (m : Room bytes needs put at n o to)
+    (x : Bytes) (j : ℕ) (lx : length x ≡ j) {o₁ : Bytes} (eo : o₁ ≡ put o to x) where
+  -- the others are not yet read
+  pub unread : j ≤ n → (length (bytes o₁) ≡ length (bytes o)) × (drop (at + j) (bytes o₁) ≡ drop (at + j) (bytes o))
+  unread h =
+      let f = puts.fewer (to + j) (to + n) (omega arith) in
+      rw (lx, sym eo) at (m.4 o x at to (le_refl at) (omega arith) (rw lx (omega (arith, f, m.2))))
 
-  pub unread-from : (m : ℕ) → Unread bytes needs put (at + m) (to + m)
-  unread-from m o b i j h e k = u o b i j (omega arith) (omega arith) k
+  -- room for l more
+  pub room_left : (l : ℕ) → j + l ≤ n → length o₁ ≡ length o → Room bytes needs put (at + j) l o₁ (to + j)
+  room_left l h e =
+      let f = puts.fewer (to + j + l) (to + n) (omega arith) in
+      let u = unread (omega arith) in
+      (omega (arith, u.0, m.0), omega (arith, m.1), omega (arith, f, m.2), omega (arith, m.3), λ o b i k g e. m.4 o b i k (omega arith) (omega arith))
 
 -- nothing is taken and put yet
 pub none_yet : {taken : Bytes → Bytes → Bytes} → Takes taken → {needs : ℕ → ℕ} {put : Bytes → ℕ → Bytes → Bytes} → Puts needs put → (v o : Bytes) (to : ℕ)
@@ -57,38 +64,38 @@ none_yet {taken} laws {needs} {put} puts v o to =
 
 -- ---- of n bytes, the first j are taken and put, and the other l are those of the next word
 module _ {taken : Bytes → Bytes → Bytes} (laws : Takes taken) (bytes : Bytes → Bytes) {needs : ℕ → ℕ} {put : Bytes → ℕ → Bytes → Bytes} (puts : Puts needs put)
-    (i to : ℕ) (u : Unread bytes needs put i to) (j l n : ℕ) (e : j + l ≡ n) (o : Bytes) (h : i + n ≤ length (bytes o)) (ho : needs (to + n) ≤ length o)
-    (v : Bytes) (hv : n ≤ length v) {o₁ : Bytes} (eo : o₁ ≡ put o to (v ⊕₈ part (bytes o) i j)) where
+    (i n to : ℕ) (o : Bytes) (m : Room bytes needs put i n o to) (j l : ℕ) (h : j + l ≤ n) (v : Bytes) (hv : n ≤ length v) {o₁ : Bytes} (eo : o₁ ≡ put o to (v ⊕₈ part (bytes o) i j)) where
   lp : length (part (bytes o) i j) ≡ j
-  lp = length_part (bytes o) i j (omega arith)
+  lp = length_part (bytes o) i j (omega (arith, m.0))
 
   lo : length (v ⊕₈ part (bytes o) i j) ≡ j
   lo = let ep : length (part (bytes o) i j) ≡ j = lp in length-xor v (part (bytes o) i j) (omega arith) ∙ ep
 
-  pub still : (length (bytes o₁) ≡ length (bytes o)) × (drop (i + j) (bytes o₁) ≡ drop (i + j) (bytes o))
-  still = let m : needs (to + j) ≤ needs (to + n) = puts.fewer (to + j) (to + n) (omega arith) in unread bytes needs put i to u o _ j lo eo (omega arith)
+  pub next_room : length o₁ ≡ length o → Room bytes needs put (i + j) l o₁ (to + j)
+  next_room = room_left bytes puts i n to o m (v ⊕₈ part (bytes o) i j) j lo eo l h
 
   pub one-more : {t t₁ o₂ : Bytes} → t ≡ xor_with v (taken v (part (bytes o) i j))
       → (t₁ ≡ put_bytes t j (drop j t ⊕₈ taken (drop j t) (part (bytes o₁) (i + j) l))) × (o₂ ≡ put o₁ (to + j) (drop j t ⊕₈ part (bytes o₁) (i + j) l))
-      → (t₁ ≡ xor_with v (taken v (part (bytes o) i n))) × (o₂ ≡ put o to (v ⊕₈ part (bytes o) i n))
-  one-more {t} et b =
+      → (k : ℕ) → j + l ≡ k → (t₁ ≡ xor_with v (taken v (part (bytes o) i k))) × (o₂ ≡ put o to (v ⊕₈ part (bytes o) i k))
+  one-more {t} et b k e =
       let d : Bytes = bytes o in
       let p : Bytes = part d i j in
       let q : Bytes = part d (i + j) l in
       let r : Bytes = drop j v in
       let ep : length p ≡ j = lp in
-      let lq : length q ≡ l = length_part d (i + j) l (omega arith) in
+      let lq : length q ≡ l = length_part d (i + j) l (omega (arith, m.0)) in
       let hq : length q ≤ length r = rw length-drop (omega arith) in
       let lx : length (taken v p) ≡ j = laws.sized v p (omega arith) ∙ ep in
       let ly : length (taken r q) ≡ l = laws.sized r q hq ∙ lq in
-      let eq : part (bytes o₁) (i + j) l ≡ q = ap (take l) still.1 in
-      let s : part d i n ≡ p ++ q = part-more d i j l n e in
+      let eq : part (bytes o₁) (i + j) l ≡ q = ap (take l) (unread bytes puts i n to o m (v ⊕₈ p) j lo eo (omega arith)).1 in
+      let s : part d i k ≡ p ++ q = part-more d i j l k e in
+      let f = puts.fewer (to + k) (to + n) (omega arith) in
       let er : drop j t ≡ r = left v (taken v p) t j lx et in
       let en : j + l ≡ length (v ⊕₈ p) + length (r ⊕₈ q) = ap₂ (λ (a b : ℕ). a + b) (sym lo) (sym (length-xor r q hq ∙ lq)) in (
         next v (taken v p) t j lx et (taken r q) _ (omega arith) (b.0 ∙ ap₂ (λ (r q : Bytes). put_bytes t j (drop j t ⊕₈ taken r q)) er eq)
             ∙ ap (xor_with v) (sym (ap (taken v) s ∙ rw ep at (laws.append v p q))),
         b.1 ∙ ap₂ (λ (r q : Bytes). put o₁ (to + j) (r ⊕₈ q)) er eq
             ∙ ap₂ (λ (o : Bytes) (k : ℕ). put o (to + k) (r ⊕₈ q)) eo (sym lo)
-            ∙ puts.append o (v ⊕₈ p) (r ⊕₈ q) to (rw (sym en, e) ho)
+            ∙ puts.append o (v ⊕₈ p) (r ⊕₈ q) to (rw (sym en, e) (omega (arith, f, m.2)))
             ∙ ap (put o to) (sym (ap (λ (b : Bytes). v ⊕₈ b) s ∙ rw ep at (xor-append v p q))),
       )

@@ -12,9 +12,9 @@ use Rattle.state_bytes.specs.StateBytes.{bytes_of}
 use Rattle.bytes_le.proofs.Laws.{behind-put, length_part, part-part, put-none, put-put, take_put}
 use Rattle.state_bytes.proofs.Lengths.{length-bytes}
 use Rattle.blocks.specs.Sealing.{◌⊕₈◌, absorb, finish, xor_with}
-use Rattle.blocks.specs.Ways.{Puts, Takes, Unread, put_by, taken_by}
+use Rattle.blocks.specs.Ways.{Puts, Room, Takes, put_by, taken_by}
 use Rattle.blocks.proofs.Blocks.{length-put, put-last, put-more, taken-last, taken-more}
-use Rattle.blocks.proofs.Full.{unread}
+use Rattle.blocks.proofs.Full.{room_left, unread}
 use Rattle.blocks.proofs.Steps.{padded}
 use Rattle.blocks.proofs.Xor.{length-xor}
 
@@ -111,20 +111,23 @@ module _ {taken : Bytes → Bytes → Bytes} (laws : Takes taken) (r : ℕ) (hr 
         (put-last r hr taken more (bytes_of s) (drop at d) (last-left h) ∙ ap (λ (b : Bytes). bytes_of s ⊕₈ b) (sym all_left) ∙ sym (append-nil _)) eo).1
         ∙ ap (put o to) (take_all (at + (n - at)) (put_by r taken more (bytes_of s₀) d) (omega arith))
 
--- ---- of the n bytes from index from on, what is left when those before index at are put
+-- ---- of the n bytes from index from on, what is left when those before index at are put, and the room for it
 module _ (taken : Bytes → Bytes → Bytes) (r : ℕ) (hr : 0 < r) (hs : r < 160) (more : ℕ) (bytes : Bytes → Bytes) {needs : ℕ → ℕ} {put : Bytes → ℕ → Bytes → Bytes}
-    (puts : Puts needs put) (from to : ℕ) (u : Unread bytes needs put from to) (n : ℕ) (o : Bytes) (h : from + n ≤ length (bytes o)) (ho : needs (to + n) ≤ length o) where
-  pub left_in : {s₀ s : State} {o₁ : Bytes} (at : ℕ) → at ≤ n → Written (put_by r taken more) put s₀ (take n (drop from (bytes o))) o to s o₁ at
-      → (length (bytes o₁) ≡ length (bytes o)) × Left (bytes o₁) (from + at) n (take n (drop from (bytes o))) at
-  left_in {s₀} at ha w =
+    (puts : Puts needs put) (from n to : ℕ) (o : Bytes) (m : Room bytes needs put from n o to) {s₀ s : State} {o₁ : Bytes} (at : ℕ)
+    (w : Written (put_by r taken more) put s₀ (take n (drop from (bytes o))) o to s o₁ at) where
+  length-put_so_far : at ≤ n → length (take at (put_by r taken more (bytes_of s₀) (take n (drop from (bytes o))))) ≡ at
+  length-put_so_far h =
       let d : Bytes = take n (drop from (bytes o)) in
-      let ld : length d ≡ n = length_part (bytes o) from n h in
-      let lz : length (put_by r taken more (bytes_of s₀) d) ≡ n = length-put r hr hs taken more d (bytes_of s₀) (length-bytes s₀) ∙ ld in
-      let m : needs (to + at) ≤ needs (to + n) = puts.fewer (to + at) (to + n) (omega arith) in
-      let e = unread bytes needs put from to u o _ at (length-take-le at _ (omega arith)) w.put_so_far (omega arith) in (
-        e.0,
-        record {
-          long = ld;
-          block = λ k g. ap (take k) (e.1 ∙ sym (drop-drop at from (bytes o))) ∙ sym (part-part (drop from (bytes o)) n at k g);
-        },
-      )
+      let lz : length (put_by r taken more (bytes_of s₀) d) ≡ n = length-put r hr hs taken more d (bytes_of s₀) (length-bytes s₀) ∙ length_part (bytes o) from n m.0 in
+      length-take-le at _ (omega arith)
+
+  pub left_in : at ≤ n → Left (bytes o₁) (from + at) n (take n (drop from (bytes o))) at
+  left_in h =
+      let e = unread bytes puts from n to o m _ at (length-put_so_far h) w.put_so_far h in
+      record {
+        long = length_part (bytes o) from n m.0;
+        block = λ k g. ap (take k) (e.1 ∙ sym (drop-drop at from (bytes o))) ∙ sym (part-part (drop from (bytes o)) n at k g);
+      }
+
+  pub room_in : (l : ℕ) → at + l ≤ n → length o₁ ≡ length o → Room bytes needs put (from + at) l o₁ (to + at)
+  room_in l h = room_left bytes puts from n to o m _ at (length-put_so_far (omega arith)) w.put_so_far l h

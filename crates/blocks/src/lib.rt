@@ -205,7 +205,7 @@ fn take_word<A: Way, K: Sink, S: Source>(
     out: &mut [u8],
     to: usize,
 )
-    requires { (w < state_words) × (l ≤ 8) × (at + l ≤ length (S.bytes d out.old)) × (at + l < word_range) × (K.needs (to + l) ≤ length out.old) }
+    requires { (w < state_words) × (l ≤ 8) × Room (S.bytes d) K.needs K.put at l out.old to }
     ensures { (bytes_of s.new ≡ put_bytes (bytes_of s.old) (8 * w)
         (drop (8 * w) (bytes_of s.old) ⊕₈ A.taken (drop (8 * w) (bytes_of s.old)) (take l (drop at (S.bytes d out.old)))))
         × (out.new ≡ K.put out.old to (drop (8 * w) (bytes_of s.old) ⊕₈ take l (drop at (S.bytes d out.old)))) }
