@@ -66,14 +66,14 @@ sealed-runs q hq k n s a m o {o₁} ls ho eu e₁ ew e₂ e₃ =
 
 -- ---- opening
 -- the tag test, in the terms of the code: w is the state after the message, b whether its tag is the one at the end of c
-pub tag_at : (q : Sizes) → Bounded q → (c u w : Bytes) (b : Bool) (l : ℕ) → q.secret + 16 ≤ length c → l ≡ length c - (q.secret + 16)
-    → w ≡ absorb_message (8 * (q.block / 8)) u (decrypt (8 * (q.block / 8)) u (take l (drop q.secret c)))
+pub tag_at : (q : Sizes) → Bounded q → (c u w : Bytes) (b : Bool) (k l : ℕ) → q.secret + 16 ≤ length c → k ≡ l → l ≡ length c - (q.secret + 16)
+    → w ≡ absorb_message (8 * (q.block / 8)) u (decrypt (8 * (q.block / 8)) u (take k (drop q.secret c)))
     → b ≡ same (take 16 w) (take 16 (drop (q.secret + l) c))
     → b ≡ same (tag (absorb_message q.block u (decrypt q.block u (message_part q c)))) (tag_part c)
-tag_at q hq c u w b l h el ew eb =
+tag_at q hq c u w b k l h ek el ew eb =
     let e : q.secret + l ≡ length c - 16 = omega arith in
     eb
-    ∙ ap₂ same (ap (take 16) (ew ∙ ap₂ (λ (r l : ℕ). absorb_message r u (decrypt r u (take l (drop q.secret c)))) (whole q hq) el))
+    ∙ ap₂ same (ap (take 16) (ew ∙ ap₂ (λ (r k : ℕ). absorb_message r u (decrypt r u (take k (drop q.secret c)))) (whole q hq) (ek ∙ el)))
     (ap (λ (i : ℕ). take 16 (drop i c)) e ∙ take_all 16 (drop (length c - 16) c) (rw length-drop (omega arith)))
 
 -- the tag that belongs to what c holds, where u is the state after the associated data

@@ -359,6 +359,7 @@ fn take_blocks<A: Way, K: Sink, S: Source>(
 {
     let block = 8 * n;
     let mut at: usize = 0;
+    // A `while`: how many blocks stand before the last is a division, and our libraries have none.
     while block < l - at {
         take_full::<A, K, _>(s, d, from + at, n, out, to + at);
         finish(s, block, more);
@@ -397,13 +398,12 @@ fn encrypt_message(s: &mut State, n: usize, m: &[u8], out: &mut [u8], to: usize)
     finish(s, last, 0);
 }
 
-// The state after the message of l bytes of ciphertext from index from on.
-fn verify_message(s: &mut State, n: usize, c: &[u8], from: usize, l: usize)
-    requires { (0 < n) × (n < state_words) × (from + l ≤ length c.now) }
-    ensures { bytes_of s.new ≡ absorb_message (8 * n) (bytes_of s.old)
-        (decrypt (8 * n) (bytes_of s.old) (take l (drop from c.now))) }
+// The state after the message of a ciphertext.
+fn verify_message(s: &mut State, n: usize, c: &[u8])
+    requires { (0 < n) × (n < state_words) }
+    ensures { bytes_of s.new ≡ absorb_message (8 * n) (bytes_of s.old) (decrypt (8 * n) (bytes_of s.old) c.now) }
 {
-    let end = take_blocks::<Open, Nowhere, _>(s, n, 1, c, from, l, &mut [], 0);
+    let end = take_blocks::<Open, Nowhere, _>(s, n, 1, c, 0, c.len(), &mut [], 0);
     finish(s, end, 0);
 }
 
@@ -502,7 +502,7 @@ fn tag_agrees(q: Sizes, u: &State, c: &[u8]) -> bool
     let from = q.secret;
     let n = c.len() - (from + TAG_BYTES);
     let mut s = *u;
-    verify_message(&mut s, q.block / 8, c, from, n);
+    verify_message(&mut s, q.block / 8, &c[from..from + n]);
     tag_matches(&s, c, from + n)
 }
 
