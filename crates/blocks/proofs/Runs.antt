@@ -6,7 +6,7 @@ use Prim.Native.Nat.{ℕ, zero, suc, ◌+◌, ◌/◌, ◌≤◌}
 use native.Mathlib.Nat.{not-suc-le-zero, le_of_suc-le-suc}
 use native.Mathlib.Omega.{arith}
 use lib.Bits.{bit_xor, xor_shr, xor_mod}
-use lib.ListN.{length, take, drop}
+use lib.ListN.{length, drop}
 use Rattle.bytes_le.specs.Bytes.{Bytes, le, put_bytes}
 use Rattle.bytes_le.proofs.Laws.{put_front, put_next}
 use Rattle.blocks.specs.Sealing.{◌⊕₈◌, xor_with}

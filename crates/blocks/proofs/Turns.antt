@@ -4,12 +4,12 @@ use mathlib.Core.Path.{◌≡◌, refl, sym, ap, ap₂, ◌∙◌}
 use mathlib.Core.List.{[], ◌++◌, append-nil}
 use Prim.Native.Nat.{ℕ, ◌<◌, ◌+◌, ◌-◌, ◌≤◌}
 use native.Mathlib.Omega.{arith}
-use lib.ListN.{length, take, drop, length-drop, length-take}
-use lib.Seq.{length-take-le, take_at, drop_at, drop-append-add, drop-drop, take_all, take-append-le, drop-append-le, take-add}
-use Rattle.bytes_le.specs.Bytes.{Bytes, put_bytes}
+use lib.ListN.{length, take, drop, length-drop}
+use lib.Seq.{length-take-le, take_at, drop_at, drop-drop, take_all, take-add}
+use Rattle.bytes_le.specs.Bytes.{Bytes}
 use Rattle.permutation.specs.State.{State}
 use Rattle.state_bytes.specs.StateBytes.{bytes_of}
-use Rattle.bytes_le.proofs.Laws.{behind-put, length_part, part-part, put-none, put-put, take_put}
+use Rattle.bytes_le.proofs.Laws.{length_part, part-part}
 use Rattle.state_bytes.proofs.Lengths.{length-bytes}
 use Rattle.blocks.specs.Sealing.{◌⊕₈◌, absorb, finish, xor_with}
 use Rattle.blocks.specs.Ways.{Puts, Room, Takes, put_by, taken_by}

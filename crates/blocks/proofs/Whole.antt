@@ -1,17 +1,17 @@
 -- Whole messages: what the calls of `ready`, `seal_into` and `tag_agrees` give, joined.
 -- Assumes nothing.
-use mathlib.Core.Path.{◌≡◌, refl, ap, ap₂, ◌∙◌}
+use mathlib.Core.Path.{◌≡◌, ap, ap₂, ◌∙◌}
 use Prim.Native.Nat.{ℕ, ◌+◌, ◌-◌, ◌*◌, ◌/◌, ◌%◌, ◌≤◌}
 use mathlib.Core.Bool.{Bool}
 use native.Mathlib.Omega.{arith}
 use mathlib.Core.List.{◌++◌, append_assoc}
 use lib.ListN.{length, take, drop, length-append, length-drop}
-use lib.Seq.{length-take-le, take_all, take-length}
+use lib.Seq.{length-take-le, take_all}
 use Rattle.bytes_le.specs.Bytes.{Bytes, put_bytes, same}
 use Rattle.bytes_le.proofs.Laws.{put-put}
 use Rattle.blocks.specs.Bounds.{Bounded}
 use Rattle.blocks.specs.Sealing.{◌⊕₈◌, absorb, absorb_associated, absorb_message, decrypt, encrypt, expected_tag, finish, keyed, message_of, message_part}
-use Rattle.blocks.specs.Sealing.{ready, ready_of, sealed, secret_of, tag, tag_part, xor_with}
+use Rattle.blocks.specs.Sealing.{ready, ready_of, sealed, tag, tag_part, xor_with}
 use Rattle.blocks.specs.Ways.{Takes}
 use Rattle.blocks.specs.declared.Sizes.{Sizes}
 use Rattle.blocks.proofs.Blocks.{length-encrypt}

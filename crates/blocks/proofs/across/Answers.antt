@@ -1,10 +1,8 @@
 -- `blocks::across` meets its contract: the end of the first part and the beginning of the second are put into eight bytes, one after the other.
 -- Assumes nothing.
 use native.Mathlib.Omega.{arith}
-use mathlib.Core.Path.{◌≡◌, refl, sym, ◌∙◌}
-use Prim.Native.Nat.{◌-◌, ◌≤◌}
-use lib.ListN.{length, replicate, take}
-use lib.Seq.{length-take-le}
+use mathlib.Core.Path.{refl, ◌∙◌}
+use lib.ListN.{replicate}
 use Rattle.blocks.proofs.Words.{across-run}
 use Rattle.blocks.proofs.across.Goals as goal
 

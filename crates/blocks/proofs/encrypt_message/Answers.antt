@@ -4,7 +4,7 @@ use mathlib.Core.Path.{ap, ◌∙◌}
 use Prim.Native.Nat.{◌*◌}
 use native.Mathlib.Omega.{arith}
 use lib.Seq.{take-length}
-use Rattle.bytes_le.specs.Bytes.{Bytes, put_bytes}
+use Rattle.bytes_le.specs.Bytes.{put_bytes}
 use Rattle.state_bytes.specs.StateBytes.{bytes_of}
 use Rattle.blocks.specs.Sealing.{absorb_message, encrypt}
 use Rattle.blocks.proofs.Blocks.{encrypt-put, message-taken}

@@ -1,8 +1,7 @@
 -- `blocks::low_bytes` meets its contract: a shift by l bytes is a power of 256.
 -- Assumes nothing.
-use mathlib.Core.Path.{sym, ap, ◌∙◌}
-use Prim.Native.Nat.{ℕ, ◌%◌, ◌^◌}
-use native.Mathlib.Nat.{mod-eq_of_lt, one-le-pow, zero-lt-suc}
+use mathlib.Core.Path.{ap}
+use Prim.Native.Nat.{ℕ, ◌%◌}
 use native.Mathlib.Omega.{arith}
 use Rattle.blocks.proofs.Words.{shift-bytes}
 use Rattle.blocks.proofs.low_bytes.Goals as goal

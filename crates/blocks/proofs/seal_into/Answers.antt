@@ -1,7 +1,6 @@
 -- `blocks::seal_into` meets its contract: the three runs of bytes touch.
 -- Assumes nothing.
 use mathlib.Core.List.{◌++◌}
-use native.Mathlib.Omega.{arith}
 use Rattle.blocks.proofs.Whole.{sealed-runs}
 use Rattle.blocks.proofs.seal_into.Goals as goal
 

@@ -1,11 +1,10 @@
 -- `blocks::take_bytes` meets its contract: whole words, then the word that is left.
 -- Assumes nothing.
-use mathlib.Core.Path.{refl}
 use Prim.Native.Nat.{◌*◌, ◌/◌, ◌%◌}
 use native.Mathlib.Omega.{arith}
 use Rattle.state_bytes.specs.StateBytes.{bytes_of}
 use Rattle.state_bytes.proofs.Lengths.{length-bytes}
-use Rattle.blocks.proofs.Full.{next_room, one-more, room_left}
+use Rattle.blocks.proofs.Full.{next_room, one-more}
 use Rattle.blocks.proofs.take_bytes.Goals as goal
 
 pub take_word-requires : goal.take_word-requires

@@ -1,7 +1,6 @@
 -- `blocks::Open` meets the contract of `taken`: the low bytes of an exclusive or.
 -- Assumes nothing.
 use mathlib.Core.Path.{ap, ◌∙◌}
-use Prim.Native.Nat.{ℕ}
 use native.Mathlib.Nat.{mod-lt, one-le-pow, zero-lt-suc}
 use Rattle.bytes_le.specs.Bytes.{le}
 use Rattle.blocks.proofs.Words.{low-xored}
