@@ -40,8 +40,8 @@ part-more : (d : Bytes) (i j l n : ℕ) → j + l ≡ n → part d i n ≡ part 
 part-more d i j l n e = ap (part d i) (sym e) ∙ take-add j l (drop i d) ∙ ap (λ (b : Bytes). part d i j ++ take l b) (drop-drop j i d)
 
 -- ---- room for n bytes, of which the first j are put: x
-module _ (bytes : Bytes → Bytes) {needs : ℕ → ℕ} {put : Bytes → ℕ → Bytes → Bytes} (puts : Puts needs put) (at n to : ℕ) (o : Bytes) (m : Room bytes needs put at n o to)
-    (x : Bytes) (j : ℕ) (lx : length x ≡ j) {o₁ : Bytes} (eo : o₁ ≡ put o to x) where
+module _ (bytes : Bytes → Bytes) {needs : ℕ → ℕ} {put : Bytes → ℕ → Bytes → Bytes} (puts : Puts needs put)
+    (at n to : ℕ) (o : Bytes) (m : Room bytes needs put at n o to) (x : Bytes) (j : ℕ) (lx : length x ≡ j) {o₁ : Bytes} (eo : o₁ ≡ put o to x) where
   -- the others are not yet read
   pub unread : j ≤ n → (length (bytes o₁) ≡ length (bytes o)) × (drop (at + j) (bytes o₁) ≡ drop (at + j) (bytes o))
   unread h =
@@ -64,7 +64,8 @@ none_yet {taken} laws {needs} {put} puts v o to =
 
 -- ---- of n bytes, the first j are taken and put, and the other l are those of the next word
 module _ {taken : Bytes → Bytes → Bytes} (laws : Takes taken) (bytes : Bytes → Bytes) {needs : ℕ → ℕ} {put : Bytes → ℕ → Bytes → Bytes} (puts : Puts needs put)
-    (i n to : ℕ) (o : Bytes) (m : Room bytes needs put i n o to) (j l : ℕ) (h : j + l ≤ n) (v : Bytes) (hv : n ≤ length v) {o₁ : Bytes} (eo : o₁ ≡ put o to (v ⊕₈ part (bytes o) i j)) where
+    (i n to : ℕ) (o : Bytes) (m : Room bytes needs put i n o to) (j l : ℕ) (h : j + l ≤ n) (v : Bytes) (hv : n ≤ length v)
+    {o₁ : Bytes} (eo : o₁ ≡ put o to (v ⊕₈ part (bytes o) i j)) where
   lp : length (part (bytes o) i j) ≡ j
   lp = length_part (bytes o) i j (omega (arith, m.0))
 

@@ -1,5 +1,5 @@
--- What absorbing, sealing and opening have in common (003, 2.6 to 2.9). Of the bytes b of a block, at the state v, `taken v b` is xored into v: b itself, or for a
--- ciphertext the message, v ⊕₈ b. What is put out, if anything is, is v ⊕₈ b.
+-- What absorbing, sealing and opening have in common (003, 2.6 to 2.9). Of the bytes b of a block, at the state v, `taken v b` is xored into v: b itself (2.7), or
+-- of a ciphertext the message, v ⊕₈ b (2.9). What is put out, if anything is, is v ⊕₈ b. Only contracts of private functions name this file.
 -- Assumes nothing.
 use Rattle.std.specs.Prelude.{◌≡◌, [], ◌++◌, ℕ, zero, suc, ◌+◌, ◌≤◌, ◌<◌, length, take, drop}
 use Rattle.bits.specs.Bits.{word_range}
