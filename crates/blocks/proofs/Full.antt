@@ -3,15 +3,17 @@
 use mathlib.Core.Path.{◌≡◌, refl, sym, ap, ap₂, ◌∙◌}
 use mathlib.Core.List.{[], ◌∷◌, ◌++◌}
 use Prim.Native.Nat.{ℕ, ◌+◌, ◌≤◌}
+use native.Mathlib.Nat.{le_refl}
 use native.Mathlib.Omega.{arith}
-use lib.Bits.{bit_xor}
+use Rattle.std.proofs.lemmas.List.{nil_from_length}
 use lib.ListN.{length, take, drop, length-drop}
 use lib.Seq.{drop-drop, take-add}
 use Rattle.bytes_le.specs.Bytes.{Bytes, put_bytes}
-use Rattle.bytes_le.proofs.Laws.{length_part, put-put}
+use Rattle.bytes_le.proofs.Laws.{length_part}
 use Rattle.blocks.specs.Sealing.{◌⊕₈◌, xor_with}
-use Rattle.blocks.proofs.Runs.{xor-take, xor-with-run}
-use Rattle.blocks.proofs.Xor.{length-xor, xor-none, xor-twice}
+use Rattle.blocks.specs.Ways.{Puts, Room, Takes}
+use Rattle.blocks.specs.WayLaws.{length-xor, xor-append, xor-none}
+use Rattle.blocks.proofs.Runs.{xor-with-run}
 
 -- the bytes past those that were xored stay
 drop-xor-with : (v x : Bytes) → drop (length x) (xor_with v x) ≡ drop (length x) v
@@ -19,21 +21,15 @@ drop-xor-with v [] = refl
 drop-xor-with [] (y ∷ x) = refl
 drop-xor-with (a ∷ v) (y ∷ x) = drop-xor-with v x
 
-xor-append : (v p q : Bytes) → v ⊕₈ (p ++ q) ≡ (v ⊕₈ p) ++ (drop (length p) v ⊕₈ q)
-xor-append v [] q = sym (ap (λ (l : Bytes). l ++ (v ⊕₈ q)) (xor-none v))
-xor-append [] (y ∷ p) q = refl
-xor-append (a ∷ v) (y ∷ p) q = ap (λ (l : Bytes). bit_xor a y ∷ l) (xor-append v p q)
-
 -- ---- t is v, into whose first j bytes x was xored
 module _ (v x t : Bytes) (j : ℕ) (hx : length x ≡ j) (et : t ≡ xor_with v x) where
   left : drop j t ≡ drop j v
   left = ap (drop j) et ∙ rw hx at (drop-xor-with v x)
 
   -- the bytes y, which come next, are xored in too
-  more : (y t₁ : Bytes) → j + length y ≤ length v → t₁ ≡ put_bytes t j (drop j t ⊕₈ y) → t₁ ≡ xor_with v (x ++ y)
-  more y t₁ h e =
+  next : (y t₁ : Bytes) → j + length y ≤ length v → t₁ ≡ put_bytes t j (drop j t ⊕₈ y) → t₁ ≡ xor_with v (x ++ y)
+  next y t₁ h e =
       e ∙ ap₂ (λ (b : Bytes) (k : ℕ). put_bytes b k (drop k b ⊕₈ y)) et (sym hx)
-      ∙ ap (put_bytes (xor_with v x) (length x)) (sym (xor-take (drop (length x) (xor_with v x)) y))
       ∙ xor-with-run v x y (omega arith)
 
 -- l bytes of d, from index i on
@@ -43,54 +39,64 @@ part d i l = take l (drop i d)
 part-more : (d : Bytes) (i j l n : ℕ) → j + l ≡ n → part d i n ≡ part d i j ++ part d (i + j) l
 part-more d i j l n e = ap (part d i) (sym e) ∙ take-add j l (drop i d) ∙ ap (λ (b : Bytes). part d i j ++ take l b) (drop-drop j i d)
 
--- ---- of n bytes of d, the first j are done, and the other l are those of the next word
-module _ (d : Bytes) (i j l n : ℕ) (e : j + l ≡ n) (h : i + n ≤ length d) (v : Bytes) (hv : n ≤ length v) where
-  lp : length (part d i j) ≡ j
-  lp = length_part d i j (omega arith)
+-- ---- room for n bytes, of which the first j are put: x
+module _ (bytes : Bytes → Bytes) {needs : ℕ → ℕ} {put : Bytes → ℕ → Bytes → Bytes} (puts : Puts needs put)
+    (at n to : ℕ) (o : Bytes) (m : Room bytes needs put at n o to) (x : Bytes) (j : ℕ) (lx : length x ≡ j) {o₁ : Bytes} (eo : o₁ ≡ put o to x) where
+  -- the others are not yet read
+  pub unread : j ≤ n → (length (bytes o₁) ≡ length (bytes o)) × (drop (at + j) (bytes o₁) ≡ drop (at + j) (bytes o))
+  unread h =
+      let f = puts.fewer (to + j) (to + n) (omega arith) in
+      rw (lx, sym eo) at (m.4 o x at to (le_refl at) (omega arith) (rw lx (omega (arith, f, m.2))))
 
-  lq : length (part d (i + j) l) ≡ l
-  lq = length_part d (i + j) l (omega arith)
+  -- room for l more
+  pub room_left : (l : ℕ) → j + l ≤ n → length o₁ ≡ length o → Room bytes needs put (at + j) l o₁ (to + j)
+  room_left l h e =
+      let f = puts.fewer (to + j + l) (to + n) (omega arith) in
+      let u = unread (omega arith) in
+      (omega (arith, u.0, m.0), omega (arith, m.1), omega (arith, f, m.2), omega (arith, m.3), λ o b i k g e. m.4 o b i k (omega arith) (omega arith))
 
-  lx : length (v ⊕₈ part d i j) ≡ j
-  lx = length-xor v (part d i j) (rw lp (omega arith)) ∙ lp
+-- nothing is taken and put yet
+pub none_yet : {taken : Bytes → Bytes → Bytes} → Takes taken → {needs : ℕ → ℕ} {put : Bytes → ℕ → Bytes → Bytes} → Puts needs put → (v o : Bytes) (to : ℕ)
+    → (v ≡ xor_with v (taken v [])) × (o ≡ put o to (v ⊕₈ []))
+none_yet {taken} laws {needs} {put} puts v o to =
+    let e : taken v [] ≡ [] = nil_from_length (taken v []) (laws.sized v [] (omega arith)) in
+    (ap (xor_with v) (sym e), puts.none o to ∙ ap (put o to) (sym (xor-none v)))
 
-  fits : length (part d (i + j) l) ≤ length (drop j v)
-  fits = rw (lq, length-drop) (omega arith)
+-- ---- of n bytes, the first j are taken and put, and the other l are those of the next word
+module _ {taken : Bytes → Bytes → Bytes} (laws : Takes taken) (bytes : Bytes → Bytes) {needs : ℕ → ℕ} {put : Bytes → ℕ → Bytes → Bytes} (puts : Puts needs put)
+    (i n to : ℕ) (o : Bytes) (m : Room bytes needs put i n o to) (j l : ℕ) (h : j + l ≤ n) (v : Bytes) (hv : n ≤ length v)
+    {o₁ : Bytes} (eo : o₁ ≡ put o to (v ⊕₈ part (bytes o) i j)) where
+  lp : length (part (bytes o) i j) ≡ j
+  lp = length_part (bytes o) i j (omega (arith, m.0))
 
-  ly : length (drop j v ⊕₈ part d (i + j) l) ≡ l
-  ly = length-xor (drop j v) (part d (i + j) l) fits ∙ lq
+  lo : length (v ⊕₈ part (bytes o) i j) ≡ j
+  lo = let ep : length (part (bytes o) i j) ≡ j = lp in length-xor v (part (bytes o) i j) (omega arith) ∙ ep
 
-  xor-more : v ⊕₈ part d i n ≡ (v ⊕₈ part d i j) ++ (drop j v ⊕₈ part d (i + j) l)
-  xor-more = ap (λ (b : Bytes). v ⊕₈ b) (part-more d i j l n e) ∙ rw lp at (xor-append v (part d i j) (part d (i + j) l))
+  pub next_room : length o₁ ≡ length o → Room bytes needs put (i + j) l o₁ (to + j)
+  next_room = room_left bytes puts i n to o m (v ⊕₈ part (bytes o) i j) j lo eo l h
 
-  -- they are xored in
-  pub absorbed : {t t₁ : Bytes} → t ≡ xor_with v (part d i j) → t₁ ≡ put_bytes t j (drop j t ⊕₈ part d (i + j) l) → t₁ ≡ xor_with v (part d i n)
-  absorbed et e₁ = more v (part d i j) _ j lp et (part d (i + j) l) _ (rw lq (omega arith)) e₁ ∙ ap (xor_with v) (sym (part-more d i j l n e))
-
-  -- they take the state's place
-  pub verified : {t t₁ : Bytes} → t ≡ xor_with v (v ⊕₈ part d i j) → t₁ ≡ put_bytes t j (part d (i + j) l) → t₁ ≡ xor_with v (v ⊕₈ part d i n)
-  verified {t} et e₁ =
+  pub one-more : {t t₁ o₂ : Bytes} → t ≡ xor_with v (taken v (part (bytes o) i j))
+      → (t₁ ≡ put_bytes t j (drop j t ⊕₈ taken (drop j t) (part (bytes o₁) (i + j) l))) × (o₂ ≡ put o₁ (to + j) (drop j t ⊕₈ part (bytes o₁) (i + j) l))
+      → (k : ℕ) → j + l ≡ k → (t₁ ≡ xor_with v (taken v (part (bytes o) i k))) × (o₂ ≡ put o to (v ⊕₈ part (bytes o) i k))
+  one-more {t} et b k e =
+      let d : Bytes = bytes o in
+      let p : Bytes = part d i j in
       let q : Bytes = part d (i + j) l in
-      let x : Bytes = v ⊕₈ part d i j in
-      more v x t j lx et (drop j v ⊕₈ q) _ (rw ly (omega arith))
-      (e₁ ∙ ap (put_bytes t j) (sym (ap (λ (b : Bytes). b ⊕₈ (drop j v ⊕₈ q)) (left v x t j lx et) ∙ xor-twice (drop j v) q fits)))
-      ∙ ap (xor_with v) (sym xor-more)
-
-  -- ---- and the bytes that were not there before are put out
-  module _ (o : Bytes) (to : ℕ) (ho : to + n ≤ length o) where
-    out : {t o₁ o₂ : Bytes} (x : Bytes) → length x ≡ j → t ≡ xor_with v x → o₁ ≡ put_bytes o to (v ⊕₈ part d i j)
-        → o₂ ≡ put_bytes o₁ (to + j) (drop j t ⊕₈ part d (i + j) l) → o₂ ≡ put_bytes o to (v ⊕₈ part d i n)
-    out x hx et e₁ e₂ =
-        e₂ ∙ ap₂ (λ (b r : Bytes). put_bytes b (to + j) (r ⊕₈ part d (i + j) l)) e₁ (left v x _ j hx et)
-        ∙ put-put o to (v ⊕₈ part d i j) (drop j v ⊕₈ part d (i + j) l) (to + j) (rw lx refl) (rw ly (omega arith))
-        ∙ ap (put_bytes o to) (sym xor-more)
-
-    pub encrypted : {t t₁ o₁ o₂ : Bytes} → (t ≡ xor_with v (part d i j)) × (o₁ ≡ put_bytes o to (v ⊕₈ part d i j))
-        → (t₁ ≡ put_bytes t j (drop j t ⊕₈ part d (i + j) l)) × (o₂ ≡ put_bytes o₁ (to + j) (drop j t ⊕₈ part d (i + j) l))
-        → (t₁ ≡ xor_with v (part d i n)) × (o₂ ≡ put_bytes o to (v ⊕₈ part d i n))
-    encrypted a b = (absorbed a.0 b.0, out (part d i j) lp a.0 a.1 b.1)
-
-    pub decrypted : {t t₁ o₁ o₂ : Bytes} → (t ≡ xor_with v (v ⊕₈ part d i j)) × (o₁ ≡ put_bytes o to (v ⊕₈ part d i j))
-        → (t₁ ≡ put_bytes t j (part d (i + j) l)) × (o₂ ≡ put_bytes o₁ (to + j) (drop j t ⊕₈ part d (i + j) l))
-        → (t₁ ≡ xor_with v (v ⊕₈ part d i n)) × (o₂ ≡ put_bytes o to (v ⊕₈ part d i n))
-    decrypted a b = (verified a.0 b.0, out (v ⊕₈ part d i j) lx a.0 a.1 b.1)
+      let r : Bytes = drop j v in
+      let ep : length p ≡ j = lp in
+      let lq : length q ≡ l = length_part d (i + j) l (omega (arith, m.0)) in
+      let hq : length q ≤ length r = rw length-drop (omega arith) in
+      let lx : length (taken v p) ≡ j = laws.sized v p (omega arith) ∙ ep in
+      let ly : length (taken r q) ≡ l = laws.sized r q hq ∙ lq in
+      let eq : part (bytes o₁) (i + j) l ≡ q = ap (take l) (unread bytes puts i n to o m (v ⊕₈ p) j lo eo (omega arith)).1 in
+      let s : part d i k ≡ p ++ q = part-more d i j l k e in
+      let f = puts.fewer (to + k) (to + n) (omega arith) in
+      let er : drop j t ≡ r = left v (taken v p) t j lx et in
+      let en : j + l ≡ length (v ⊕₈ p) + length (r ⊕₈ q) = ap₂ (λ (a b : ℕ). a + b) (sym lo) (sym (length-xor r q hq ∙ lq)) in (
+        next v (taken v p) t j lx et (taken r q) _ (omega arith) (b.0 ∙ ap₂ (λ (r q : Bytes). put_bytes t j (drop j t ⊕₈ taken r q)) er eq)
+            ∙ ap (xor_with v) (sym (ap (taken v) s ∙ rw ep at (laws.append v p q))),
+        b.1 ∙ ap₂ (λ (r q : Bytes). put o₁ (to + j) (r ⊕₈ q)) er eq
+            ∙ ap₂ (λ (o : Bytes) (k : ℕ). put o (to + k) (r ⊕₈ q)) eo (sym lo)
+            ∙ puts.append o (v ⊕₈ p) (r ⊕₈ q) to (rw (sym en, e) (omega (arith, f, m.2)))
+            ∙ ap (put o to) (sym (ap (λ (b : Bytes). v ⊕₈ b) s ∙ rw ep at (xor-append v p q))),
+      )

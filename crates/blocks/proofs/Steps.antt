@@ -5,7 +5,7 @@ use mathlib.Core.List.{[], ◌∷◌, ◌++◌, append_assoc}
 use Prim.Native.Nat.{ℕ, zero, suc, ◌<◌, ◌+◌, ◌-◌, ◌*◌, ◌/◌, ◌%◌, ◌^◌, ◌≤◌}
 use mathlib.Core.Bool.{Bool, true, false, cond}
 use native.Mathlib.Omega.{arith}
-use native.Mathlib.Nat.{pow-suc}
+use native.Mathlib.Nat.{le_refl, pow-suc}
 use lib.Bits.{bit_xor, bit_or, xor_zero_r}
 use lib.Dec.{eqb}
 use lib.ListN.{length, take, drop, replicate, length-append, length-replicate}
@@ -18,13 +18,9 @@ use Rattle.state_bytes.specs.StateBytes.{permuted}
 use Rattle.bits.proofs.Cases.{two}
 use Rattle.bits.proofs.Tests.{or-test, xor-test}
 use Rattle.blocks.specs.Sealing.{◌⊕₈◌, absorb, finish, padding, xor_at, xor_with}
+use Rattle.blocks.specs.WayLaws.{xor-front}
 use Rattle.blocks.proofs.Runs.{le-xor, xor-with-run}
 use Rattle.blocks.proofs.Xor.{xor-with-snoc}
-
--- nothing is xored in
-pub xor-with-none : (v : Bytes) → v ≡ xor_with v (v ⊕₈ [])
-xor-with-none [] = refl
-xor-with-none (x ∷ v) = refl
 
 -- ---- zeros change nothing
 zeros : (v : Bytes) (k : ℕ) → xor_with v (replicate k 0) ≡ v
@@ -71,10 +67,10 @@ padded-word v n f z lv hn hf e =
     let lo : length (p ++ o) ≡ n = rw (length-append, length-replicate, length-replicate) (omega arith) in
     let ev : xor_with v p ≡ v = zeros v w in
     let eo : xor_with v (p ++ o) ≡ v = xor-with-zeros v p t ∙ ev in
-    let run : put_bytes v w (take 8 (drop w v) ⊕₈ le 8 k) ≡ xor_with v (p ++ le 8 k) =
-    ap₂ (λ (b : Bytes) (i : ℕ). put_bytes b i (take 8 (drop i b) ⊕₈ le 8 k)) (sym ev) (sym lp)
+    let run : put_bytes v w (drop w v ⊕₈ le 8 k) ≡ xor_with v (p ++ le 8 k) =
+    ap₂ (λ (b : Bytes) (i : ℕ). put_bytes b i (drop i b ⊕₈ le 8 k)) (sym ev) (sym lp)
     ∙ xor-with-run v p (le 8 k) (omega arith) in
-    ap (put_bytes v w) (le-xor 8 z k ∙ ap (λ (b : Bytes). b ⊕₈ le 8 k) e)
+    ap (put_bytes v w) (le-xor 8 z k ∙ ap (λ (b : Bytes). b ⊕₈ le 8 k) e ∙ xor-front (drop w v) (le 8 k) 8 (le_refl 8))
     ∙ run
     ∙ ap (λ (b : Bytes). xor_with v (p ++ b)) (shifted f t hf (omega arith))
     ∙ ap (xor_with v) (sym (append_assoc p o (x ∷ replicate (7 - t) 0)) ∙ sym (append_assoc (p ++ o) (x ∷ []) (replicate (7 - t) 0)))

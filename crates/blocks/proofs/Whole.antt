@@ -1,17 +1,18 @@
--- Whole messages: what the calls of `seal_ready`, `seal_into`, `open_ready` and `tag_agrees` give, joined.
+-- Whole messages: what the calls of `ready`, `seal_into` and `tag_agrees` give, joined.
 -- Assumes nothing.
-use mathlib.Core.Path.{◌≡◌, refl, ap, ap₂, ◌∙◌}
+use mathlib.Core.Path.{◌≡◌, ap, ap₂, ◌∙◌}
 use Prim.Native.Nat.{ℕ, ◌+◌, ◌-◌, ◌*◌, ◌/◌, ◌%◌, ◌≤◌}
 use mathlib.Core.Bool.{Bool}
 use native.Mathlib.Omega.{arith}
 use mathlib.Core.List.{◌++◌, append_assoc}
 use lib.ListN.{length, take, drop, length-append, length-drop}
-use lib.Seq.{length-take-le, take_all, take-length}
+use lib.Seq.{length-take-le, take_all}
 use Rattle.bytes_le.specs.Bytes.{Bytes, put_bytes, same}
 use Rattle.bytes_le.proofs.Laws.{put-put}
 use Rattle.blocks.specs.Bounds.{Bounded}
 use Rattle.blocks.specs.Sealing.{◌⊕₈◌, absorb, absorb_associated, absorb_message, decrypt, encrypt, expected_tag, finish, keyed, message_of, message_part}
-use Rattle.blocks.specs.Sealing.{ready, ready_of, sealed, secret_of, tag, tag_part, xor_with}
+use Rattle.blocks.specs.Sealing.{ready, ready_of, sealed, tag, tag_part, xor_with}
+use Rattle.blocks.specs.Ways.{Takes}
 use Rattle.blocks.specs.declared.Sizes.{Sizes}
 use Rattle.blocks.proofs.Blocks.{length-encrypt}
 use Rattle.blocks.proofs.Opening.{length-keyed, length-ready, length-tag}
@@ -22,23 +23,21 @@ use Rattle.blocks.proofs.Xor.{length-xor}
 pub whole : (q : Sizes) → Bounded q → 8 * (q.block / 8) ≡ q.block
 whole q h = let e : q.block % 8 ≡ 0 = h.whole in omega arith
 
--- the state after the secret number s, of which p is what the code absorbs, and the associated data
-ready_by : (q : Sizes) → Bounded q → (k n s a p : Bytes) {v b x u : Bytes} (l : ℕ) → v ≡ keyed k n → p ≡ s → length s ≡ l → l ≤ 16
-    → b ≡ xor_with v p → x ≡ finish b l 0 → u ≡ absorb_associated (8 * (q.block / 8)) x a → u ≡ ready q.block (keyed k n) s a
-unfolding ready
-ready_by q hq k n s a p {v} {b} {x} l ev ep ls hl eb ex eu =
-    let lv : length v ≡ 160 = ap length ev ∙ length-keyed k n in
-    eu ∙ ap₂ (λ (r : ℕ) (x : Bytes). absorb_associated r x a) (whole q hq) (padded v p b l 0 x (ap length ep ∙ ls) (omega arith) eb ex ∙ ap₂ (λ (v p : Bytes). absorb v p 0) ev ep)
-
--- what stands before the message: the state, and the sealed secret number
-pub sealed-ready : (q : Sizes) → Bounded q → (k n s a o : Bytes) {o₁ v b x u : Bytes} → length s ≡ q.secret
-    → v ≡ keyed k n → b ≡ xor_with v (take (length s) s) → o₁ ≡ put_bytes o 0 (v ⊕₈ take (length s) s) → x ≡ finish b (length s) 0
+-- what stands before the message: the state, and what is put out, where d begins with the secret number, or with the sealed one
+pub ready-data : (q : Sizes) → Bounded q → {taken : Bytes → Bytes → Bytes} → Takes taken → (k n a d o : Bytes) {o₁ v b x u : Bytes} → q.secret ≤ length d
+    → v ≡ keyed k n → b ≡ xor_with v (taken v (take q.secret d)) → o₁ ≡ put_bytes o 0 (v ⊕₈ take q.secret d) → x ≡ finish b q.secret 0
     → u ≡ absorb_associated (8 * (q.block / 8)) x a
-    → (u ≡ ready q.block (keyed k n) s a) × (o₁ ≡ put_bytes o 0 (keyed k n ⊕₈ s))
-sealed-ready q hq k n s a o ls ev eb eo ex eu = (
-  ready_by q hq k n s a _ (length s) ev (take-length s) refl (omega (arith, hq.secret)) eb ex eu,
-  eo ∙ ap₂ (λ (v s : Bytes). put_bytes o 0 (v ⊕₈ s)) ev (take-length s),
-)
+    → (u ≡ ready q.block (keyed k n) (taken (keyed k n) (take q.secret d)) a) × (o₁ ≡ put_bytes o 0 (keyed k n ⊕₈ take q.secret d))
+unfolding ready
+ready-data q hq {taken} laws k n a d o {v = v} {b = b} {x = x} h ev eb eo ex eu =
+    let c : Bytes = take q.secret d in
+    let hs : q.secret ≤ 16 = hq.secret in
+    let lc : length c ≡ q.secret = length-take-le q.secret d h in
+    let lv : length v ≡ 160 = ap length ev ∙ length-keyed k n in (
+      eu ∙ ap₂ (λ (r : ℕ) (x : Bytes). absorb_associated r x a) (whole q hq)
+          (padded v (taken v c) b q.secret 0 x (laws.sized v c (omega arith) ∙ lc) (omega arith) eb ex ∙ ap (λ (v : Bytes). absorb v (taken v c) 0) ev),
+      eo ∙ ap (λ (v : Bytes). put_bytes o 0 (v ⊕₈ c)) ev,
+    )
 
 -- the three runs of bytes of a sealed message touch
 pub sealed-runs : (q : Sizes) → Bounded q → (k n s a m o : Bytes) {o₁ o₂ o₃ u w : Bytes} → length s ≡ q.secret → q.secret + (length m + 16) ≤ length o
@@ -65,30 +64,16 @@ sealed-runs q hq k n s a m o {o₁} ls ho eu e₁ ew e₂ e₃ =
     ∙ put-put o 0 (c₀ ++ c₁) t (q.secret + length m) (omega arith) (omega arith)
     ∙ ap (put_bytes o 0) (append_assoc c₀ c₁ t)
 
--- ---- opening: the secret number and the state after the associated data; the tag
-pub opened-ready : (q : Sizes) → Bounded q → (k n a c o : Bytes) {o₁ v b x u : Bytes} → q.secret ≤ length c
-    → v ≡ keyed k n → b ≡ xor_with v (v ⊕₈ take q.secret c) → o₁ ≡ put_bytes o 0 (v ⊕₈ take q.secret c) → x ≡ finish b q.secret 0
-    → u ≡ absorb_associated (8 * (q.block / 8)) x a
-    → (u ≡ ready_of q k n a c) × (o₁ ≡ put_bytes o 0 (secret_of q k n c))
-unfolding ready_of secret_of
-opened-ready q hq k n a c o {v = v} h ev eb eo ex eu =
-    let e : v ⊕₈ take q.secret c ≡ keyed k n ⊕₈ take q.secret c = ap (λ (v : Bytes). v ⊕₈ take q.secret c) ev in
-    let lk : length (keyed k n) ≡ 160 = length-keyed k n in
-    let lc : length (take q.secret c) ≡ q.secret = length-take-le q.secret c h in
-    let hs : q.secret ≤ 16 = hq.secret in (
-      ready_by q hq k n (keyed k n ⊕₈ take q.secret c) a _ q.secret ev e (length-xor (keyed k n) (take q.secret c) (omega arith) ∙ lc) hs eb ex eu,
-      eo ∙ ap (put_bytes o 0) e,
-    )
-
+-- ---- opening
 -- the tag test, in the terms of the code: w is the state after the message, b whether its tag is the one at the end of c
-pub tag_at : (q : Sizes) → Bounded q → (c u w : Bytes) (b : Bool) (l : ℕ) → q.secret + 16 ≤ length c → l ≡ length c - (q.secret + 16)
-    → w ≡ absorb_message (8 * (q.block / 8)) u (decrypt (8 * (q.block / 8)) u (take l (drop q.secret c)))
+pub tag_at : (q : Sizes) → Bounded q → (c u w : Bytes) (b : Bool) (k l : ℕ) → q.secret + 16 ≤ length c → k ≡ l → l ≡ length c - (q.secret + 16)
+    → w ≡ absorb_message (8 * (q.block / 8)) u (decrypt (8 * (q.block / 8)) u (take k (drop q.secret c)))
     → b ≡ same (take 16 w) (take 16 (drop (q.secret + l) c))
     → b ≡ same (tag (absorb_message q.block u (decrypt q.block u (message_part q c)))) (tag_part c)
-tag_at q hq c u w b l h el ew eb =
+tag_at q hq c u w b k l h ek el ew eb =
     let e : q.secret + l ≡ length c - 16 = omega arith in
     eb
-    ∙ ap₂ same (ap (take 16) (ew ∙ ap₂ (λ (r l : ℕ). absorb_message r u (decrypt r u (take l (drop q.secret c)))) (whole q hq) el))
+    ∙ ap₂ same (ap (take 16) (ew ∙ ap₂ (λ (r k : ℕ). absorb_message r u (decrypt r u (take k (drop q.secret c)))) (whole q hq) (ek ∙ el)))
     (ap (λ (i : ℕ). take 16 (drop i c)) e ∙ take_all 16 (drop (length c - 16) c) (rw length-drop (omega arith)))
 
 -- the tag that belongs to what c holds, where u is the state after the associated data

@@ -3,7 +3,7 @@
 use mathlib.Core.Path.{◌≡◌, refl, sym, ap, ap₂, ◌∙◌}
 use mathlib.Core.List.{[], ◌∷◌, ◌++◌, append_assoc}
 use Prim.Native.Nat.{ℕ, zero, suc, ◌+◌, ◌-◌, ◌*◌, ◌/◌, ◌%◌, ◌^◌, ◌≤◌, ◌<◌}
-use native.Mathlib.Nat.{le_of_suc-le-suc, mod-lt, not-suc-le-zero, one-le-pow, one-mul, pow-suc, zero-lt-suc}
+use native.Mathlib.Nat.{le_refl, le_of_suc-le-suc, mod-lt, not-suc-le-zero, one-le-pow, one-mul, pow-suc, zero-lt-suc}
 use native.Mathlib.Omega.{arith}
 use lib.Arith.{mod-mul}
 use lib.Bits.{bit_xor, xor_shr, xor_mod, xor_zero_r}
@@ -13,7 +13,9 @@ use lib.Seq.{drop-append-le, drop-drop, length-take-le, take_all, take-append-ad
 use Rattle.bytes_le.specs.Bytes.{Bytes, le, put_bytes}
 use Rattle.bytes_le.proofs.Laws.{length-le, put-put, take_put}
 use Rattle.blocks.specs.Sealing.{◌⊕₈◌}
-use Rattle.blocks.proofs.Xor.{length-xor, xor-none, xor-twice}
+use Rattle.blocks.specs.Ways.{Takes}
+use Rattle.blocks.specs.WayLaws.{length-xor, xor-front, xor-none}
+use Rattle.blocks.proofs.Runs.{le-xor}
 
 -- ---- the low bytes of a number
 take-le : (l n x : ℕ) → l ≤ n → take l (le n x) ≡ le l x
@@ -34,6 +36,11 @@ le_low (suc l) x =
     ∙ ap (le (suc l)) (mod-mul x (one-le-pow l 256 (zero-lt-suc 255)) (zero-lt-suc 255))
     ∙ le-digit l (x / 256 % 256 ^ l) (x % 256) (mod-lt x (zero-lt-suc 255))
     ∙ ap (λ (b : Bytes). x % 256 ∷ b) (le_low l (x / 256))
+
+pub low-xored : (l z k : ℕ) → l ≤ 8 → le l (bit_xor z k % 256 ^ l) ≡ le 8 z ⊕₈ le l k
+low-xored l z k h =
+    le_low l (bit_xor z k) ∙ le-xor l z k ∙ ap (λ (b : Bytes). b ⊕₈ le l k) (sym (take-le l 8 z h))
+    ∙ xor-front (le 8 z) (le l k) l (rw length-le (le_refl l))
 
 -- ---- a number of l bytes is xored into one whose n bytes begin u: the bytes after the first l stay
 xored : (n l z k : ℕ) (u : Bytes) → l ≤ n → le n z ≡ take n u → k < 256 ^ l → le n (bit_xor z k) ≡ (u ⊕₈ le l k) ++ drop l (take n u)
@@ -65,39 +72,40 @@ put-kept v x i n hx h =
     ∙ sym (drop-append-le (length x) (take n r) (drop n r) (omega arith))
     ∙ ap (drop (length x)) (take-append-drop n r) ∙ drop-drop (length x) i v))
 
--- ---- z is the word of v whose bytes begin at index i; of its bytes, l count
-module _ (v : Bytes) (i l z : ℕ) (hl : l ≤ 8) (hv : i + 8 ≤ length v) (ez : le 8 z ≡ take 8 (drop i v)) where
-  -- k is the number of the l bytes d
-  module _ (k : ℕ) (d : Bytes) (ek : le l k ≡ d) (hk : k < 256 ^ l) where
-    ld : length d ≡ l
-    ld = ap length (sym ek) ∙ length-le l k
+-- ---- z is the word of v whose bytes begin at index i, k the number of the l bytes d
+module _ (v : Bytes) (i l z : ℕ) (hl : l ≤ 8) (hv : i + 8 ≤ length v) (ez : le 8 z ≡ take 8 (drop i v)) (k : ℕ) (d : Bytes) (ek : le l k ≡ d) (hk : k < 256 ^ l) where
+  ld : length d ≡ l
+  ld = ap length (sym ek) ∙ length-le l k
 
-    fit : length d ≤ length (drop i v)
-    fit = let e : length d ≡ l = ld in rw length-drop (omega arith)
+  fit : length d ≤ length (drop i v)
+  fit = let e : length d ≡ l = ld in rw length-drop (omega arith)
 
-    lx : length (drop i v ⊕₈ d) ≡ l
-    lx = length-xor (drop i v) d fit ∙ ld
+  lx : length (drop i v ⊕₈ d) ≡ l
+  lx = length-xor (drop i v) d fit ∙ ld
 
-    word-xored : le 8 (bit_xor z k) ≡ (drop i v ⊕₈ d) ++ drop l (take 8 (drop i v))
-    word-xored = xored 8 l z k (drop i v) hl ez hk ∙ ap (λ (b : Bytes). (drop i v ⊕₈ b) ++ drop l (take 8 (drop i v))) ek
+  word-xored : le 8 (bit_xor z k) ≡ (drop i v ⊕₈ d) ++ drop l (take 8 (drop i v))
+  word-xored = xored 8 l z k (drop i v) hl ez hk ∙ ap (λ (b : Bytes). (drop i v ⊕₈ b) ++ drop l (take 8 (drop i v))) ek
 
-    -- the l bytes of the sum
-    pub bytes-xored : le l (bit_xor z k) ≡ drop i v ⊕₈ d
-    bytes-xored =
-        sym (take-le l 8 (bit_xor z k) hl) ∙ ap (take l) word-xored ∙ take_at (drop i v ⊕₈ d) (drop l (take 8 (drop i v))) l lx
+  -- the l bytes of the sum
+  bytes-xored : le l (bit_xor z k) ≡ drop i v ⊕₈ d
+  bytes-xored =
+      sym (take-le l 8 (bit_xor z k) hl) ∙ ap (take l) word-xored ∙ take_at (drop i v ⊕₈ d) (drop l (take 8 (drop i v))) l lx
 
-    -- the word with k xored in
-    pub absorbed : put_bytes v i (le 8 (bit_xor z k)) ≡ put_bytes v i (drop i v ⊕₈ d)
-    absorbed =
-        let n : length (drop i v ⊕₈ d) ≡ l = lx in
-        ap (put_bytes v i) (word-xored ∙ ap (λ (m : ℕ). (drop i v ⊕₈ d) ++ drop m (take 8 (drop i v))) (sym n))
-        ∙ put-kept v (drop i v ⊕₈ d) i 8 (omega arith) hv
+  -- the word with k xored in
+  absorbed : put_bytes v i (le 8 (bit_xor z k)) ≡ put_bytes v i (drop i v ⊕₈ d)
+  absorbed =
+      let n : length (drop i v ⊕₈ d) ≡ l = lx in
+      ap (put_bytes v i) (word-xored ∙ ap (λ (m : ℕ). (drop i v ⊕₈ d) ++ drop m (take 8 (drop i v))) (sym n))
+      ∙ put-kept v (drop i v ⊕₈ d) i 8 (omega arith) hv
 
-  -- the word with d in place of its first bytes
-  pub replaced : (k : ℕ) (d : Bytes) → le l k ≡ d → k < 256 ^ l → put_bytes v i (le 8 (bit_xor z (bit_xor z k % 256 ^ l))) ≡ put_bytes v i d
-  replaced k d ek hk =
-      absorbed (bit_xor z k % 256 ^ l) (drop i v ⊕₈ d) (le_low l (bit_xor z k) ∙ bytes-xored k d ek hk) (mod-lt (bit_xor z k) (one-le-pow l 256 (zero-lt-suc 255)))
-      ∙ ap (put_bytes v i) (xor-twice (drop i v) d (fit k d ek hk))
+-- ---- the same, where x is what of the bytes d, whose number is k, is taken at z
+pub taken-word : {taken : Bytes → Bytes → Bytes} → Takes taken → (v : Bytes) (i l z k x : ℕ) (d : Bytes) → l ≤ 8 → i + 8 ≤ length v → le 8 z ≡ take 8 (drop i v)
+    → (le l k ≡ d) × (k < 256 ^ l) → (le l x ≡ taken (le 8 z) (le l k)) × (x < 256 ^ l)
+    → (put_bytes v i (le 8 (bit_xor z x)) ≡ put_bytes v i (drop i v ⊕₈ taken (drop i v) d)) × (le l (bit_xor z k) ≡ drop i v ⊕₈ d)
+taken-word {taken} laws v i l z k x d hl hv ez hk hx =
+    let hd : length d ≤ 8 = let e : length d ≡ l = ap length (sym hk.0) ∙ length-le l k in omega arith in
+    let ex : le l x ≡ taken (drop i v) d = hx.0 ∙ ap₂ taken ez hk.0 ∙ laws.front (drop i v) d 8 hd in
+    (absorbed v i l z hl hv ez x (taken (drop i v) d) ex hx.1, bytes-xored v i l z hl hv ez k d hk.0 hk.1)
 
 -- ---- a shift by l bytes
 pow-bytes : (l : ℕ) → 2 ^ (8 * l) ≡ 256 ^ l

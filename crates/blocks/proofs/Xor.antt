@@ -2,23 +2,14 @@
 -- Assumes nothing.
 use mathlib.Core.Path.{◌≡◌, refl, ap, ap₂}
 use mathlib.Core.List.{[], ◌∷◌, ◌++◌}
-use Prim.Native.Nat.{ℕ, suc, ◌<◌, ◌≤◌}
+use Prim.Native.Nat.{ℕ, ◌<◌, ◌≤◌}
 use lib.ListN.{get_or, length}
 use native.Mathlib.Nat.{not-suc-le-zero, le_of_suc-le-suc}
 use lib.Bits.{bit_xor}
 use Rattle.bytes_le.specs.Bytes.{Bytes}
 use Rattle.bits.proofs.Tests.{number-xor-cancel}
 use Rattle.blocks.specs.Sealing.{◌⊕₈◌, xor_at, xor_with}
-
-pub xor-none : (v : Bytes) → v ⊕₈ [] ≡ []
-xor-none [] = refl
-xor-none (x ∷ v) = refl
-
-pub length-xor : (v b : Bytes) → length b ≤ length v → length (v ⊕₈ b) ≡ length b
-length-xor [] [] h = refl
-length-xor [] (y ∷ b) h = absurd (not-suc-le-zero h)
-length-xor (x ∷ v) [] h = refl
-length-xor (x ∷ v) (y ∷ b) h = ap suc (length-xor v b (le_of_suc-le-suc h))
+pub use Rattle.blocks.specs.WayLaws.{length-xor, xor-none}
 
 pub xor-twice : (v b : Bytes) → length b ≤ length v → v ⊕₈ (v ⊕₈ b) ≡ b
 xor-twice [] [] h = refl

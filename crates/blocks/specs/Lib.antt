@@ -1,3 +1,5 @@
 pub mod Lengths
 pub mod Sealing
+pub mod Ways
+pub mod WayLaws
 pub mod Bounds

@@ -3,16 +3,16 @@
 // crates `icepole` and `strips`. A state is worked on in place; the contracts speak of its bytes.
 #![tactic(auto)]
 
-ghost use Rattle.std.specs.Prelude.{◌≡◌, ◌++◌, ◌+◌, ◌*◌, ◌^◌, ◌%◌, ◌≤◌, ◌<◌, length, take, drop};
+ghost use Rattle.std.specs.Prelude.{◌≡◌, ◌++◌, ◌+◌, ◌*◌, ◌^◌, ◌%◌, ◌≤◌, ◌<◌, ℕ, length, take, drop};
 ghost use Rattle.bits.specs.Bits.{word_range};
-ghost use Rattle.bytes_le.specs.Bytes.{le, put_bytes, same};
+ghost use Rattle.bytes_le.specs.Bytes.{Bytes, le, put_bytes, same};
 ghost use Rattle.state_bytes.specs.StateBytes.{state_words, state_length, bytes_of};
 ghost use Rattle.blocks.specs.Lengths.{tag_length, max_key, max_nonce, max_length};
 ghost use Rattle.blocks.specs.Sealing.{◌⊕₈◌, xor_with, keyed, finish, absorb_associated, absorb_message, encrypt, decrypt};
 ghost use Rattle.blocks.specs.Sealing.{ready, sealed, secret_of, ready_of, expected_tag, tag, message_part, tag_part};
+ghost use Rattle.blocks.specs.Ways.{Takes, Puts, Room, taken_by, put_by};
+ghost use Rattle.blocks.specs.WayLaws.{seal_takes, open_takes, written_puts, nowhere_puts};
 ghost use Rattle.blocks.specs.Bounds.{Bounded};
-
-use state_bytes::STATE_BYTES;
 
 // The sizes of a variant, in bytes.
 #[derive(Clone, Copy)]
@@ -37,7 +37,59 @@ const SHORT_BLOCK_WORDS: usize = SHORT_BLOCK_BYTES / 8;
 
 type State = [[u64; 5]; 4];
 
-// ---- one word of a block, of which l bytes are there
+// ---- what the bytes of a block come from
+// Bytes that are read as numbers, up to eight at a time. They may be those of out, into which the bytes of the block go.
+trait Source: Copy {
+    // The bytes, where those of out are given.
+    ghost bytes: { Self → Bytes → Bytes };
+
+    // The number of the l bytes from index at on.
+    fn load(self, out: &[u8], at: usize, l: usize) -> u64
+        requires { (l ≤ 8) × (at + l ≤ length (bytes self out.now)) × (at + l < word_range) }
+        ensures { (le l result ≡ take l (drop at (bytes self out.now))) × (result < 256 ^ l) };
+}
+
+impl<'a> Source for &'a [u8] {
+    ghost bytes = { λ d o. d.now };
+
+    fn load(self, _out: &[u8], at: usize, l: usize) -> u64 {
+        bytes_le::load_le(self, at, l)
+    }
+}
+
+// Two parts, one behind the other.
+#[derive(Clone, Copy)]
+struct Joined<'a> {
+    first: &'a [u8],
+    second: &'a [u8],
+}
+
+impl<'a> Source for Joined<'a> {
+    ghost bytes = { λ d o. d.first.now ++ d.second.now };
+
+    fn load(self, _out: &[u8], at: usize, l: usize) -> u64 {
+        if at + l <= self.first.len() {
+            return bytes_le::load_le(self.first, at, l);
+        }
+        if self.first.len() <= at {
+            return bytes_le::load_le(self.second, at - self.first.len(), l);
+        }
+        across(self.first, self.second, at, l)
+    }
+}
+
+// Those of out itself.
+#[derive(Clone, Copy)]
+struct InPlace;
+
+impl Source for InPlace {
+    ghost bytes = { λ d o. o };
+
+    fn load(self, out: &[u8], at: usize, l: usize) -> u64 {
+        bytes_le::load_le(out, at, l)
+    }
+}
+
 // The number of the l bytes from index at on of two parts, where they lie across both.
 fn across(first: &[u8], second: &[u8], at: usize, l: usize) -> u64
     requires { (l ≤ 8) × (at < length first.now) × (length first.now ≤ at + l) × (at + l ≤ length first.now + length second.now) }
@@ -50,18 +102,85 @@ fn across(first: &[u8], second: &[u8], at: usize, l: usize) -> u64
     bytes_le::load_le(&b, 0, l)
 }
 
-// The same, wherever they lie.
-fn joined(first: &[u8], second: &[u8], at: usize, l: usize) -> u64
-    requires { (l ≤ 8) × (at + l ≤ length first.now + length second.now) × (at + l < word_range) }
-    ensures { (le l result ≡ take l (drop at (first.now ++ second.now))) × (result < 256 ^ l) }
-{
-    if at + l <= first.len() {
-        return bytes_le::load_le(first, at, l);
+// ---- where the bytes of a block xored with the state go
+trait Sink {
+    // How many bytes out has at least, where so many are put into it.
+    ghost needs: { ℕ → ℕ };
+
+    // What out is then, after bytes are put into it from an index on.
+    ghost put: { Bytes → ℕ → Bytes → Bytes };
+
+    // Puts the l low bytes of x into out from index to on.
+    fn put(out: &mut [u8], to: usize, l: usize, x: u64)
+        requires { needs (to + l) ≤ length out.old }
+        ensures { out.new ≡ put out.old to (le l x) };
+
+    ghost laws: { Puts needs put };
+}
+
+struct Written;
+
+impl Sink for Written {
+    ghost needs = { λ n. n };
+
+    ghost put = { put_bytes };
+
+    ghost laws = { written_puts };
+
+    fn put(out: &mut [u8], to: usize, l: usize, x: u64) {
+        bytes_le::store_le(out, to, l, x);
     }
-    if first.len() <= at {
-        return bytes_le::load_le(second, at - first.len(), l);
+}
+
+struct Nowhere;
+
+impl Sink for Nowhere {
+    ghost needs = { λ n. 0 };
+
+    ghost put = { λ o to b. o };
+
+    ghost laws = { nowhere_puts };
+
+    fn put(_out: &mut [u8], _to: usize, _l: usize, _x: u64) {}
+}
+
+// ---- what of the bytes of a block is xored into the state
+trait Way {
+    // At the state v, of the bytes b.
+    ghost taken: { Bytes → Bytes → Bytes };
+
+    // At word z, of the l bytes of k.
+    fn taken(z: u64, k: u64, l: usize) -> u64
+        requires { (l ≤ 8) × (k < 256 ^ l) }
+        ensures { (le l result ≡ taken (le 8 z) (le l k)) × (result < 256 ^ l) };
+
+    ghost laws: { Takes taken };
+}
+
+// The bytes themselves: those of a message.
+struct Seal;
+
+impl Way for Seal {
+    ghost taken = { λ v b. b };
+
+    ghost laws = { seal_takes };
+
+    fn taken(_z: u64, k: u64, _l: usize) -> u64 {
+        k
     }
-    across(first, second, at, l)
+}
+
+// What the state deciphers them to: they are those of a ciphertext, which stands in the state then.
+struct Open;
+
+impl Way for Open {
+    ghost taken = { ◌⊕₈◌ };
+
+    ghost laws = { open_takes };
+
+    fn taken(z: u64, k: u64, l: usize) -> u64 {
+        low_bytes(z ^ k, l)
+    }
 }
 
 // The number of the l low bytes of x.
@@ -75,151 +194,94 @@ fn low_bytes(x: u64, l: usize) -> u64
     x % (1 << 8 * l)
 }
 
-// The bytes of two parts are xored into word w.
-fn absorb_word(s: &mut State, w: usize, first: &[u8], second: &[u8], at: usize, l: usize)
-    requires { (w < state_words) × (l ≤ 8) × (at + l ≤ length first.now + length second.now) × (at + l < word_range) }
-    ensures { bytes_of s.new ≡ put_bytes (bytes_of s.old) (8 * w)
-        (drop (8 * w) (bytes_of s.old) ⊕₈ take l (drop at (first.now ++ second.now))) }
-{
-    let k = joined(first, second, at, l);
-    let z = state_bytes::word(s, w);
-    state_bytes::set_word(s, w, z ^ k);
-}
-
-// The bytes of a message are xored into word w; the ciphertext, which stands there then, is put into out from index to on.
-fn encrypt_word(s: &mut State, w: usize, m: &[u8], at: usize, l: usize, out: &mut [u8], to: usize)
-    requires { (w < state_words) × (l ≤ 8) × (at + l ≤ length m.now) × (to + l ≤ length out.old) }
+// ---- the bytes of a block, by all three: they are read in d from index at on, and put into out from index to on
+// l of them, at word w.
+fn take_word<A: Way, K: Sink, S: Source>(
+    s: &mut State,
+    w: usize,
+    d: S,
+    at: usize,
+    l: usize,
+    out: &mut [u8],
+    to: usize,
+)
+    requires { (w < state_words) × (l ≤ 8) × Room (S.bytes d) K.needs K.put at l out.old to }
     ensures { (bytes_of s.new ≡ put_bytes (bytes_of s.old) (8 * w)
-        (drop (8 * w) (bytes_of s.old) ⊕₈ take l (drop at m.now)))
-        × (out.new ≡ put_bytes out.old to (drop (8 * w) (bytes_of s.old) ⊕₈ take l (drop at m.now))) }
+        (drop (8 * w) (bytes_of s.old) ⊕₈ A.taken (drop (8 * w) (bytes_of s.old)) (take l (drop at (S.bytes d out.old)))))
+        × (out.new ≡ K.put out.old to (drop (8 * w) (bytes_of s.old) ⊕₈ take l (drop at (S.bytes d out.old)))) }
 {
-    let k = bytes_le::load_le(m, at, l);
-    let c = state_bytes::word(s, w) ^ k;
-    state_bytes::set_word(s, w, c);
-    bytes_le::store_le(out, to, l, c);
-}
-
-// The bytes of a ciphertext take the place of those in word w: state xor message is the ciphertext.
-fn verify_word(s: &mut State, w: usize, c: &[u8], at: usize, l: usize)
-    requires { (w < state_words) × (l ≤ 8) × (at + l ≤ length c.now) }
-    ensures { bytes_of s.new ≡ put_bytes (bytes_of s.old) (8 * w) (take l (drop at c.now)) }
-{
-    let k = bytes_le::load_le(c, at, l);
+    let k = d.load(out, at, l);
     let z = state_bytes::word(s, w);
-    let m = low_bytes(z ^ k, l);
-    state_bytes::set_word(s, w, z ^ m);
+    K::put(out, to, l, z ^ k);
+    let x = A::taken(z, k, l);
+    state_bytes::set_word(s, w, z ^ x);
 }
 
-// The same, and the message is put into out from index to on.
-fn decrypt_word(s: &mut State, w: usize, c: &[u8], at: usize, l: usize, out: &mut [u8], to: usize)
-    requires { (w < state_words) × (l ≤ 8) × (at + l ≤ length c.now) × (to + l ≤ length out.old) }
-    ensures { (bytes_of s.new ≡ put_bytes (bytes_of s.old) (8 * w) (take l (drop at c.now)))
-        × (out.new ≡ put_bytes out.old to (drop (8 * w) (bytes_of s.old) ⊕₈ take l (drop at c.now))) }
+// n whole words, from word 0 on.
+fn take_words<A: Way, K: Sink, S: Source>(
+    s: &mut State,
+    d: S,
+    at: usize,
+    n: usize,
+    out: &mut [u8],
+    to: usize,
+)
+    requires { (n < state_words) × Room (S.bytes d) K.needs K.put at (8 * n) out.old to }
+    ensures { (bytes_of s.new ≡ xor_with (bytes_of s.old) (A.taken (bytes_of s.old) (take (8 * n) (drop at (S.bytes d out.old)))))
+        × (out.new ≡ K.put out.old to (bytes_of s.old ⊕₈ take (8 * n) (drop at (S.bytes d out.old)))) }
 {
-    let k = bytes_le::load_le(c, at, l);
-    let z = state_bytes::word(s, w);
-    bytes_le::store_le(out, to, l, z ^ k);
-    let p = low_bytes(z ^ k, l);
-    state_bytes::set_word(s, w, z ^ p);
-}
-
-// ---- n whole words, from word 0 on
-fn absorb_words(s: &mut State, first: &[u8], second: &[u8], at: usize, n: usize)
-    requires { (n < state_words) × (at + 8 * n ≤ length first.now + length second.now) × (at + 8 * n < word_range) }
-    ensures { bytes_of s.new ≡ xor_with (bytes_of s.old) (take (8 * n) (drop at (first.now ++ second.now))) }
-{
-    let mut w: usize = 0;
-    while w < n {
-        absorb_word(s, w, first, second, at + 8 * w, 8);
-        w += 1;
+    for w in 0..n {
+        take_word::<A, K, _>(s, w, d, at + 8 * w, 8, out, to + 8 * w);
     }
 }
 
+// The same, with the count of words known to the compiler where it is that of a variant.
+fn take_full<A: Way, K: Sink, S: Source>(
+    s: &mut State,
+    d: S,
+    at: usize,
+    n: usize,
+    out: &mut [u8],
+    to: usize,
+)
+    requires { (n < state_words) × Room (S.bytes d) K.needs K.put at (8 * n) out.old to }
+    ensures { (bytes_of s.new ≡ xor_with (bytes_of s.old) (A.taken (bytes_of s.old) (take (8 * n) (drop at (S.bytes d out.old)))))
+        × (out.new ≡ K.put out.old to (bytes_of s.old ⊕₈ take (8 * n) (drop at (S.bytes d out.old)))) }
+{
+    if n == BLOCK_WORDS {
+        return take_words::<A, K, _>(s, d, at, BLOCK_WORDS, out, to);
+    }
+    if n == SHORT_BLOCK_WORDS {
+        return take_words::<A, K, _>(s, d, at, SHORT_BLOCK_WORDS, out, to);
+    }
+    take_words::<A, K, _>(s, d, at, n, out, to)
+}
+
+// n bytes, from byte 0 on: whole words, then what is left.
+fn take_bytes<A: Way, K: Sink, S: Source>(
+    s: &mut State,
+    d: S,
+    at: usize,
+    n: usize,
+    out: &mut [u8],
+    to: usize,
+)
+    requires { (n < state_length) × Room (S.bytes d) K.needs K.put at n out.old to }
+    ensures { (bytes_of s.new ≡ xor_with (bytes_of s.old) (A.taken (bytes_of s.old) (take n (drop at (S.bytes d out.old)))))
+        × (out.new ≡ K.put out.old to (bytes_of s.old ⊕₈ take n (drop at (S.bytes d out.old)))) }
+{
+    let w = n / 8;
+    take_words::<A, K, _>(s, d, at, w, out, to);
+    take_word::<A, K, _>(s, w, d, at + 8 * w, n % 8, out, to + 8 * w);
+}
+
+// The bytes of a message are xored in; the ciphertext, which stands in the state then, is put into out from index to on. First whole words, then any bytes.
 pub fn encrypt_words(s: &mut State, m: &[u8], at: usize, n: usize, out: &mut [u8], to: usize)
     requires { (n < state_words) × (at + 8 * n ≤ length m.now) × (to + 8 * n ≤ length out.old) }
     ensures { (bytes_of s.new ≡ xor_with (bytes_of s.old) (take (8 * n) (drop at m.now)))
         × (out.new ≡ put_bytes out.old to (bytes_of s.old ⊕₈ take (8 * n) (drop at m.now))) }
 {
-    let mut w: usize = 0;
-    while w < n {
-        encrypt_word(s, w, m, at + 8 * w, 8, out, to + 8 * w);
-        w += 1;
-    }
-}
-
-fn verify_words(s: &mut State, c: &[u8], at: usize, n: usize)
-    requires { (n < state_words) × (at + 8 * n ≤ length c.now) }
-    ensures { bytes_of s.new ≡ xor_with (bytes_of s.old) (bytes_of s.old ⊕₈ take (8 * n) (drop at c.now)) }
-{
-    let mut w: usize = 0;
-    while w < n {
-        verify_word(s, w, c, at + 8 * w, 8);
-        w += 1;
-    }
-}
-
-fn decrypt_words(s: &mut State, c: &[u8], at: usize, n: usize, out: &mut [u8], to: usize)
-    requires { (n < state_words) × (at + 8 * n ≤ length c.now) × (to + 8 * n ≤ length out.old) }
-    ensures { (bytes_of s.new ≡ xor_with (bytes_of s.old) (bytes_of s.old ⊕₈ take (8 * n) (drop at c.now)))
-        × (out.new ≡ put_bytes out.old to (bytes_of s.old ⊕₈ take (8 * n) (drop at c.now))) }
-{
-    let mut w: usize = 0;
-    while w < n {
-        decrypt_word(s, w, c, at + 8 * w, 8, out, to + 8 * w);
-        w += 1;
-    }
-}
-
-// ---- the same, with the count of words known to the compiler where it is that of a variant
-fn encrypt_full(s: &mut State, m: &[u8], at: usize, n: usize, out: &mut [u8], to: usize)
-    requires { (n < state_words) × (at + 8 * n ≤ length m.now) × (to + 8 * n ≤ length out.old) }
-    ensures { (bytes_of s.new ≡ xor_with (bytes_of s.old) (take (8 * n) (drop at m.now)))
-        × (out.new ≡ put_bytes out.old to (bytes_of s.old ⊕₈ take (8 * n) (drop at m.now))) }
-{
-    if n == BLOCK_WORDS {
-        return encrypt_words(s, m, at, BLOCK_WORDS, out, to);
-    }
-    if n == SHORT_BLOCK_WORDS {
-        return encrypt_words(s, m, at, SHORT_BLOCK_WORDS, out, to);
-    }
-    encrypt_words(s, m, at, n, out, to)
-}
-
-fn verify_full(s: &mut State, c: &[u8], at: usize, n: usize)
-    requires { (n < state_words) × (at + 8 * n ≤ length c.now) }
-    ensures { bytes_of s.new ≡ xor_with (bytes_of s.old) (bytes_of s.old ⊕₈ take (8 * n) (drop at c.now)) }
-{
-    if n == BLOCK_WORDS {
-        return verify_words(s, c, at, BLOCK_WORDS);
-    }
-    if n == SHORT_BLOCK_WORDS {
-        return verify_words(s, c, at, SHORT_BLOCK_WORDS);
-    }
-    verify_words(s, c, at, n)
-}
-
-fn decrypt_full(s: &mut State, c: &[u8], at: usize, n: usize, out: &mut [u8], to: usize)
-    requires { (n < state_words) × (at + 8 * n ≤ length c.now) × (to + 8 * n ≤ length out.old) }
-    ensures { (bytes_of s.new ≡ xor_with (bytes_of s.old) (bytes_of s.old ⊕₈ take (8 * n) (drop at c.now)))
-        × (out.new ≡ put_bytes out.old to (bytes_of s.old ⊕₈ take (8 * n) (drop at c.now))) }
-{
-    if n == BLOCK_WORDS {
-        return decrypt_words(s, c, at, BLOCK_WORDS, out, to);
-    }
-    if n == SHORT_BLOCK_WORDS {
-        return decrypt_words(s, c, at, SHORT_BLOCK_WORDS, out, to);
-    }
-    decrypt_words(s, c, at, n, out, to)
-}
-
-// ---- n bytes, from byte 0 on: whole words, then what is left
-fn absorb_bytes(s: &mut State, first: &[u8], second: &[u8], at: usize, n: usize)
-    requires { (n < state_length) × (at + n ≤ length first.now + length second.now) × (at + n < word_range) }
-    ensures { bytes_of s.new ≡ xor_with (bytes_of s.old) (take n (drop at (first.now ++ second.now))) }
-{
-    let w = n / 8;
-    absorb_words(s, first, second, at, w);
-    absorb_word(s, w, first, second, at + 8 * w, n % 8);
+    take_words::<Seal, Written, _>(s, m, at, n, out, to)
 }
 
 pub fn encrypt_bytes(s: &mut State, m: &[u8], at: usize, n: usize, out: &mut [u8], to: usize)
@@ -227,28 +289,7 @@ pub fn encrypt_bytes(s: &mut State, m: &[u8], at: usize, n: usize, out: &mut [u8
     ensures { (bytes_of s.new ≡ xor_with (bytes_of s.old) (take n (drop at m.now)))
         × (out.new ≡ put_bytes out.old to (bytes_of s.old ⊕₈ take n (drop at m.now))) }
 {
-    let w = n / 8;
-    encrypt_words(s, m, at, w, out, to);
-    encrypt_word(s, w, m, at + 8 * w, n % 8, out, to + 8 * w);
-}
-
-fn verify_bytes(s: &mut State, c: &[u8], at: usize, n: usize)
-    requires { (n < state_length) × (at + n ≤ length c.now) }
-    ensures { bytes_of s.new ≡ xor_with (bytes_of s.old) (bytes_of s.old ⊕₈ take n (drop at c.now)) }
-{
-    let w = n / 8;
-    verify_words(s, c, at, w);
-    verify_word(s, w, c, at + 8 * w, n % 8);
-}
-
-fn decrypt_bytes(s: &mut State, c: &[u8], at: usize, n: usize, out: &mut [u8], to: usize)
-    requires { (n < state_length) × (at + n ≤ length c.now) × (to + n ≤ length out.old) }
-    ensures { (bytes_of s.new ≡ xor_with (bytes_of s.old) (bytes_of s.old ⊕₈ take n (drop at c.now)))
-        × (out.new ≡ put_bytes out.old to (bytes_of s.old ⊕₈ take n (drop at c.now))) }
-{
-    let w = n / 8;
-    decrypt_words(s, c, at, w, out, to);
-    decrypt_word(s, w, c, at + 8 * w, n % 8, out, to + 8 * w);
+    take_bytes::<Seal, Written, _>(s, m, at, n, out, to)
 }
 
 // The end of a block of n bytes: the frame bit and the 1 are added, then P6.
@@ -270,7 +311,11 @@ fn keyed_state(s: &mut State, key: &[u8], nonce: &[u8])
     ensures { bytes_of s.new ≡ keyed key.now nonce.now }
 {
     state_bytes::start(s);
-    absorb_bytes(s, key, nonce, 0, key.len() + nonce.len());
+    let d = Joined {
+        first: key,
+        second: nonce,
+    };
+    take_bytes::<Seal, Nowhere, _>(s, d, 0, key.len() + nonce.len(), &mut [], 0);
     state_bytes::permute::<12>(s);
 }
 
@@ -296,21 +341,51 @@ pub fn put_tag(s: &State, out: &mut [u8], at: usize)
 }
 
 // ---- data in blocks of n words
+// The l bytes of d from index from on, block by block; each but the last is finished with the frame bit more. Returns how many bytes the last has.
+fn take_blocks<A: Way, K: Sink, S: Source>(
+    s: &mut State,
+    n: usize,
+    more: u64,
+    d: S,
+    from: usize,
+    l: usize,
+    out: &mut [u8],
+    to: usize,
+) -> usize
+    requires { (0 < n) × (n < state_words) × (more < 2) × Room (S.bytes d) K.needs K.put from l out.old to }
+    ensures { (result ≤ 8 * n)
+        × ((end : ℕ) → finish (bytes_of s.new) result end ≡ taken_by (8 * n) A.taken more end (bytes_of s.old) (take l (drop from (S.bytes d out.old))))
+        × (out.new ≡ K.put out.old to (put_by (8 * n) A.taken more (bytes_of s.old) (take l (drop from (S.bytes d out.old))))) }
+{
+    let block = 8 * n;
+    let mut at: usize = 0;
+    // A `while`: how many blocks stand before the last is a division, and our libraries have none.
+    while block < l - at {
+        take_full::<A, K, _>(s, d, from + at, n, out, to + at);
+        finish(s, block, more);
+        at += block;
+    }
+    take_bytes::<A, K, _>(s, d, from + at, l - at, out, to + at);
+    l - at
+}
+
 // The state after associated data in two parts.
 fn absorb_associated(s: &mut State, n: usize, first: &[u8], second: &[u8])
     requires { (0 < n) × (n < state_words) × (length first.now + length second.now ≤ max_length) }
     ensures { bytes_of s.new ≡ absorb_associated (8 * n) (bytes_of s.old) (first.now ++ second.now) }
 {
-    let r = 8 * n;
-    let l = first.len() + second.len();
-    let mut at: usize = 0;
-    while r < l - at {
-        absorb_bytes(s, first, second, at, r);
-        finish(s, r, 0);
-        at += r;
-    }
-    absorb_bytes(s, first, second, at, l - at);
-    finish(s, l - at, 1);
+    let d = Joined { first, second };
+    let last = take_blocks::<Seal, Nowhere, _>(
+        s,
+        n,
+        0,
+        d,
+        0,
+        first.len() + second.len(),
+        &mut [],
+        0,
+    );
+    finish(s, last, 1);
 }
 
 // The state after a message, whose ciphertext is put into out from index to on.
@@ -319,33 +394,17 @@ fn encrypt_message(s: &mut State, n: usize, m: &[u8], out: &mut [u8], to: usize)
     ensures { (bytes_of s.new ≡ absorb_message (8 * n) (bytes_of s.old) m.now)
         × (out.new ≡ put_bytes out.old to (encrypt (8 * n) (bytes_of s.old) m.now)) }
 {
-    let r = 8 * n;
-    let mut at: usize = 0;
-    while r < m.len() - at {
-        encrypt_full(s, m, at, n, out, to + at);
-        finish(s, r, 1);
-        at += r;
-    }
-    let l = m.len() - at;
-    encrypt_bytes(s, m, at, l, out, to + at);
-    finish(s, l, 0);
+    let last = take_blocks::<Seal, Written, _>(s, n, 1, m, 0, m.len(), out, to);
+    finish(s, last, 0);
 }
 
-// The state after the message of l bytes of ciphertext from index from on.
-fn verify_message(s: &mut State, n: usize, c: &[u8], from: usize, l: usize)
-    requires { (0 < n) × (n < state_words) × (from + l ≤ length c.now) }
-    ensures { bytes_of s.new ≡ absorb_message (8 * n) (bytes_of s.old)
-        (decrypt (8 * n) (bytes_of s.old) (take l (drop from c.now))) }
+// The state after the message of a ciphertext.
+fn verify_message(s: &mut State, n: usize, c: &[u8])
+    requires { (0 < n) × (n < state_words) }
+    ensures { bytes_of s.new ≡ absorb_message (8 * n) (bytes_of s.old) (decrypt (8 * n) (bytes_of s.old) c.now) }
 {
-    let r = 8 * n;
-    let mut at: usize = 0;
-    while r < l - at {
-        verify_full(s, c, from + at, n);
-        finish(s, r, 1);
-        at += r;
-    }
-    verify_bytes(s, c, from + at, l - at);
-    finish(s, l - at, 0);
+    let end = take_blocks::<Open, Nowhere, _>(s, n, 1, c, 0, c.len(), &mut [], 0);
+    finish(s, end, 0);
 }
 
 // The message of l bytes of ciphertext from index from on is put into out, at its front. What is left of the state is of no use.
@@ -353,37 +412,43 @@ pub fn decrypt_message(s: &mut State, n: usize, c: &[u8], from: usize, l: usize,
     requires { (0 < n) × (n < state_words) × (from + l ≤ length c.now) × (l ≤ length out.old) }
     ensures { out.new ≡ put_bytes out.old 0 (decrypt (8 * n) (bytes_of s.old) (take l (drop from c.now))) }
 {
-    let r = 8 * n;
-    let mut at: usize = 0;
-    while r < l - at {
-        decrypt_full(s, c, from + at, n, out, at);
-        finish(s, r, 1);
-        at += r;
-    }
-    decrypt_bytes(s, c, from + at, l - at, out, at);
+    take_blocks::<Open, Written, _>(s, n, 1, c, from, l, out, 0);
 }
 
-// The same where the ciphertext stands in out itself, here b. Each block is copied before its message is put. The message stands `from` bytes before its ciphertext,
-// so that a block's message ends where the next block begins, or before.
+// The same where the ciphertext stands in out itself, here b. A word's message stands `from` bytes before its ciphertext, so that it is put over none that is not yet
+// read.
 pub fn decrypt_in_place(s: &mut State, n: usize, b: &mut [u8], from: usize, l: usize)
     requires { (0 < n) × (n < state_words) × (from + l ≤ length b.old) }
     ensures { b.new ≡ put_bytes b.old 0 (decrypt (8 * n) (bytes_of s.old) (take l (drop from b.old))) }
 {
-    let r = 8 * n;
-    let mut block = [0u8; STATE_BYTES];
-    let mut at: usize = 0;
-    while r < l - at {
-        let c = from + at;
-        bytes_le::put_bytes(&mut block, 0, &b[c..c + r]);
-        decrypt_full(s, &block, 0, n, b, at);
-        finish(s, r, 1);
-        at += r;
-    }
-    bytes_le::put_bytes(&mut block, 0, &b[from + at..from + l]);
-    decrypt_bytes(s, &block, 0, l - at, b, at);
+    take_blocks::<Open, Written, _>(s, n, 1, InPlace, from, l, b, 0);
 }
 
 // ---- whole messages, whose sizes fit
+// The state after the secret number, which is read in d and put into out, at the front of each, and the associated data.
+fn ready<A: Way>(
+    s: &mut State,
+    q: Sizes,
+    key: &[u8],
+    nonce: &[u8],
+    first: &[u8],
+    second: &[u8],
+    d: &[u8],
+    out: &mut [u8],
+)
+    requires { Bounded q × (length key.now ≡ q.key) × (length nonce.now ≡ q.nonce)
+        × (length first.now + length second.now ≤ max_length) × (q.secret ≤ length d.now) × (q.secret ≤ length out.old) }
+    ensures { (bytes_of s.new ≡ ready q.block (keyed key.now nonce.now)
+        (A.taken (keyed key.now nonce.now) (take q.secret d.now)) (first.now ++ second.now))
+        × (out.new ≡ put_bytes out.old 0 (keyed key.now nonce.now ⊕₈ take q.secret d.now)) }
+{
+    let n = q.secret;
+    keyed_state(s, key, nonce);
+    take_bytes::<A, Written, _>(s, d, 0, n, out, 0);
+    finish(s, n, 0);
+    absorb_associated(s, q.block / 8, first, second);
+}
+
 // The state after the secret number, which is put into out at its front, sealed, and the associated data.
 pub fn seal_ready(
     s: &mut State,
@@ -401,10 +466,7 @@ pub fn seal_ready(
         (first.now ++ second.now))
         × (out.new ≡ put_bytes out.old 0 (keyed key.now nonce.now ⊕₈ secret.now)) }
 {
-    keyed_state(s, key, nonce);
-    encrypt_bytes(s, secret, 0, secret.len(), out, 0);
-    finish(s, secret.len(), 0);
-    absorb_associated(s, q.block / 8, first, second);
+    ready::<Seal>(s, q, key, nonce, first, second, secret, out);
 }
 
 // Writes the sealed message at the front of out.
@@ -430,30 +492,6 @@ pub fn seal_into(
     put_tag(&s, out, n + message.len());
 }
 
-// The state after the secret number and the associated data of a sealed message; the secret number is put into secret.
-fn open_ready(
-    s: &mut State,
-    q: Sizes,
-    key: &[u8],
-    nonce: &[u8],
-    first: &[u8],
-    second: &[u8],
-    c: &[u8],
-    secret: &mut [u8],
-)
-    requires { Bounded q × (length key.now ≡ q.key) × (length nonce.now ≡ q.nonce)
-        × (length first.now + length second.now ≤ max_length) × (q.secret ≤ length c.now) × (q.secret ≤ length secret.old) }
-    ensures { (bytes_of s.new ≡ ready_of q key.now nonce.now (first.now ++ second.now) c.now)
-        × (secret.new ≡ put_bytes secret.old 0 (secret_of q key.now nonce.now c.now)) }
-{
-    let r = q.block / 8;
-    let n = q.secret;
-    keyed_state(s, key, nonce);
-    decrypt_bytes(s, c, 0, n, secret, 0);
-    finish(s, n, 0);
-    absorb_associated(s, r, first, second);
-}
-
 // Whether the tag agrees, of a sealed message after whose associated data the state is u.
 fn tag_agrees(q: Sizes, u: &State, c: &[u8]) -> bool
     requires { Bounded q × (q.secret + tag_length ≤ length c.now) }
@@ -464,7 +502,7 @@ fn tag_agrees(q: Sizes, u: &State, c: &[u8]) -> bool
     let from = q.secret;
     let n = c.len() - (from + TAG_BYTES);
     let mut s = *u;
-    verify_message(&mut s, q.block / 8, c, from, n);
+    verify_message(&mut s, q.block / 8, &c[from..from + n]);
     tag_matches(&s, c, from + n)
 }
 
@@ -486,6 +524,6 @@ pub fn verify_sealed(
         × (bytes_of s.new ≡ ready_of q key.now nonce.now (first.now ++ second.now) c.now)
         × (secret.new ≡ put_bytes secret.old 0 (secret_of q key.now nonce.now c.now)) }
 {
-    open_ready(s, q, key, nonce, first, second, c, secret);
+    ready::<Open>(s, q, key, nonce, first, second, c, secret);
     tag_agrees(q, s, c)
 }

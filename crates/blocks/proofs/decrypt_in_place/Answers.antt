@@ -1,43 +1,23 @@
--- `blocks::decrypt_in_place` meets its contract. The loop's invariant is that of `decrypt_message`, with the buffer as its own output.
+-- `blocks::decrypt_in_place` meets its contract: bytes that are put before index j change none behind it.
 -- Assumes nothing.
-use mathlib.Core.Path.{refl, ap, ◌∙◌}
-use Prim.Native.Nat.{◌+◌, ◌-◌, ◌*◌}
+use mathlib.Core.Path.{ap, ◌∙◌}
+use Prim.Native.Nat.{◌+◌, ◌*◌}
 use native.Mathlib.Omega.{arith}
-use borrow.Author.Rules.{rules}
-use Rattle.bytes_le.specs.Bytes.{Bytes, put_bytes}
-use Rattle.state_bytes.specs.StateBytes.{bytes_of}
-use Rattle.blocks.specs.Sealing.{◌⊕₈◌, xor_with}
-use Rattle.blocks.proofs.Turns.{copied, decrypted, none_written, part, put-end, put-turn}
+use lib.ListN.{length}
+use Rattle.bytes_le.specs.Bytes.{put_bytes}
+use Rattle.bytes_le.proofs.Laws.{behind-put, length-put}
+use Rattle.blocks.proofs.Blocks.{decrypt-put}
 use Rattle.blocks.proofs.decrypt_in_place.Goals as goal
 
-pub loop-at-init : goal.loop-at-init
-loop-at-init c = (omega arith, none_written _ _ _ _ _, refl, refl)
-
-pub loop-at-preserved : goal.loop-at-preserved
-loop-at-preserved c =
-    let q = c.decrypt_full in
-    let g = c.put_bytes in
-    let a = c.args in
-    let r = c.loop-at-test.true in
-    let e = copied c.loop-at.block a.b.now _ c.loop-at.at (a.from + c.loop-at.at) (8 * a.n) (a.from + c.loop-at.at + 8 * a.n - (a.from + c.loop-at.at)) c.loop-at.invariant.1.put g.ensures.1
-    (omega arith) (omega arith) (omega arith) (omega arith) in (
-      omega arith,
-      put-turn (part a.b.now a.from a.l (omega arith)) c.loop-at.at c.loop-at.s (decrypted (8 * a.n) (omega arith) (omega arith))
-          c.loop-at.invariant.1 (omega arith) (omega arith) _ r
-          (q.ensures.0 ∙ ap (λ (b : Bytes). xor_with (bytes_of c.loop-at.s) (bytes_of c.loop-at.s ⊕₈ b)) e)
-          c.finish.ensures
-          (q.ensures.1 ∙ ap (λ (b : Bytes). put_bytes c.loop-at.b c.loop-at.at (bytes_of c.loop-at.s ⊕₈ b)) e),
-      search rules,
-      search rules,
-    )
+pub take_blocks-requires : goal.take_blocks-requires
+take_blocks-requires c = (
+  c.requires.0,
+  c.requires.1,
+  omega arith,
+  (c.requires.2, omega arith, omega arith, omega arith, λ o b i j h e k. (length-put o j b k, behind-put o j b (i + length b) (omega arith) (omega arith))),
+)
 
 pub returns : goal.returns
 returns c =
-    let q = c.decrypt_bytes in
-    let g = c.put_bytes-2 in
     let a = c.args in
-    let e = copied c.loop-at.block a.b.now _ c.loop-at.at (a.from + c.loop-at.at) (a.l - c.loop-at.at) (a.from + a.l - (a.from + c.loop-at.at)) c.loop-at.invariant.1.put g.ensures.1
-    (omega arith) (omega arith) (omega arith) (omega arith) in
-    put-end (part a.b.now a.from a.l (omega arith)) c.loop-at.at c.loop-at.s (decrypted (8 * a.n) (omega arith) (omega arith))
-    c.loop-at.invariant.1 (omega arith) (omega arith) c.loop-at-test.false c.loop-at.invariant.0
-    (q.ensures.1 ∙ ap (λ (b : Bytes). put_bytes c.loop-at.b c.loop-at.at (bytes_of c.loop-at.s ⊕₈ b)) e)
+    c.take_blocks.ensures.2 ∙ ap (put_bytes a.b.now 0) (decrypt-put (8 * a.n) (omega arith) _ _)

@@ -21,6 +21,6 @@ returns c =
     let e : take (length k + length n) (drop 0 (k ++ n)) ≡ k ++ n = take_all (length k + length n) (k ++ n) (rw length-append (omega arith)) in
     c.permute.ensures
     ∙ ap (permuted 12)
-    (c.absorb_bytes.ensures
+    (c.take_bytes.ensures.0
     ∙ ap₂ xor_with c.start.ensures e
     ∙ sym (xor-with-zeros start_bytes (k ++ n) (max_nonce - length n)) ∙ ap (xor_with start_bytes) (append_assoc k n (replicate (max_nonce - length n) 0)))

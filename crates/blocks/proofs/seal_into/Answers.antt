@@ -1,13 +1,8 @@
 -- `blocks::seal_into` meets its contract: the three runs of bytes touch.
 -- Assumes nothing.
 use mathlib.Core.List.{◌++◌}
-use native.Mathlib.Omega.{arith}
 use Rattle.blocks.proofs.Whole.{sealed-runs}
 use Rattle.blocks.proofs.seal_into.Goals as goal
-
-pub overflow_add-n : goal.overflow_add-n
-overflow_add-n c =
-    omega (arith, c.requires, c.well_formed)
 
 pub returns : goal.returns
 returns c =

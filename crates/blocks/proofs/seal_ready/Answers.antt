@@ -1,11 +1,13 @@
--- `blocks::seal_ready` meets its contract: the sealed secret number is put, and the associated data absorbed.
+-- `blocks::seal_ready` meets its contract: the secret number is as long as the variant wants.
 -- Assumes nothing.
-use mathlib.Core.List.{◌++◌}
-use Rattle.blocks.proofs.Whole.{sealed-ready}
+use mathlib.Core.Path.{◌≡◌}
+use native.Mathlib.Omega.{arith}
+use lib.ListN.{take}
+use lib.Seq.{take_all}
 use Rattle.blocks.proofs.seal_ready.Goals as goal
 
 pub returns : goal.returns
 returns c =
     let a = c.args in
-    sealed-ready a.q c.requires.0 a.key.now a.nonce.now a.secret.now (a.first.now ++ a.second.now) a.out.now c.requires.3
-    c.keyed_state.ensures c.encrypt_bytes.ensures.0 c.encrypt_bytes.ensures.1 c.finish.ensures c.absorb_associated.ensures
+    let e : take a.q.secret a.secret.now ≡ a.secret.now = take_all a.q.secret a.secret.now (omega arith) in
+    rw e at c.ready.ensures

@@ -1,24 +1,19 @@
--- `blocks::verify_message` meets its contract. The loop's invariant: what is left from here ends in the same state as all from the start.
+-- `blocks::verify_message` meets its contract: the last block is finished.
 -- Assumes nothing.
-use mathlib.Core.Path.{refl}
+use mathlib.Core.Path.{ap, ◌∙◌}
 use Prim.Native.Nat.{◌*◌}
 use native.Mathlib.Omega.{arith}
-use Rattle.blocks.proofs.Turns.{checked, ended, part, turn}
+use lib.Seq.{take-length}
+use Rattle.bytes_le.specs.Bytes.{Bytes}
+use Rattle.state_bytes.specs.StateBytes.{bytes_of}
+use Rattle.state_bytes.proofs.Lengths.{length-bytes}
+use Rattle.blocks.specs.Sealing.{absorb_message, decrypt}
+use Rattle.blocks.proofs.Blocks.{checked-taken}
 use Rattle.blocks.proofs.verify_message.Goals as goal
-
-pub loop-at-init : goal.loop-at-init
-loop-at-init c = (omega arith, refl)
-
-pub loop-at-preserved : goal.loop-at-preserved
-loop-at-preserved c =
-    let a = c.args in (
-      omega arith,
-      turn (part a.c.now a.from a.l (omega arith)) c.loop-at.at c.loop-at.s (checked (8 * a.n) (omega arith) (omega arith))
-          c.loop-at-test.true c.loop-at.invariant.1 c.verify_full.ensures c.finish.ensures,
-    )
 
 pub returns : goal.returns
 returns c =
     let a = c.args in
-    ended (part a.c.now a.from a.l (omega arith)) c.loop-at.at c.loop-at.s (checked (8 * a.n) (omega arith) (omega arith))
-    c.loop-at-test.false c.loop-at.invariant.0 c.loop-at.invariant.1 c.verify_bytes.ensures c.finish-2.ensures
+    let v : Bytes = bytes_of a.s.now in
+    c.finish.ensures ∙ c.take_blocks-end.ensures.1 0 ∙ checked-taken (8 * a.n) (omega arith) (omega arith) _ v (length-bytes a.s.now)
+    ∙ ap (λ (d : Bytes). absorb_message (8 * a.n) v (decrypt (8 * a.n) v d)) (take-length a.c.now)

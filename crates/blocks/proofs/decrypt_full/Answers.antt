@@ -1,9 +1,0 @@
--- `blocks::decrypt_full` meets its contract: the same call for each count of words.
--- Assumes nothing.
-use Rattle.blocks.proofs.decrypt_full.Goals as goal
-
-pub returns-then-n-eq-BLOCK_WORDS : goal.returns-then-n-eq-BLOCK_WORDS
-returns-then-n-eq-BLOCK_WORDS c = rw c.if-n-eq-BLOCK_WORDS.true c.decrypt_words.ensures
-
-pub returns-then-n-eq-SHORT_BLOCK_WORDS : goal.returns-then-n-eq-SHORT_BLOCK_WORDS
-returns-then-n-eq-SHORT_BLOCK_WORDS c = rw c.if-n-eq-SHORT_BLOCK_WORDS.true c.decrypt_words-then-n-eq-SHORT_BLOCK_WORDS.ensures
