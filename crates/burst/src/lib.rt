@@ -600,16 +600,17 @@ impl Recorder {
     }
 
     // The recorder after a picture of so many bytes.
-    fn with_picture(self, count: u32) -> Recorder
-        requires { (self.taken.0 < max_entries) × (self.kept.0 < max_entries) × (self.used + count + seal_length < 256 ^ offset_width) }
-        ensures { result ≡ after_keep self count }
+    fn with_picture(&self, count: u32) -> Recorder
+        requires { (self.now.taken.0 < max_entries) × (self.now.kept.0 < max_entries)
+            × (self.now.used + count + seal_length < 256 ^ offset_width) }
+        ensures { result ≡ after_keep self.now count }
     {
         let x = self.next_entry(count);
         let mut next = Recorder {
             taken: x.shot,
             kept: Place(self.kept.0 + 1),
             used: self.used + count + SEAL_LENGTH,
-            ..self
+            ..*self
         };
         next.entries[self.kept.0 as usize] = x;
         next

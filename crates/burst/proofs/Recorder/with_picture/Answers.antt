@@ -4,4 +4,4 @@ use Rattle.burst.proofs.Answers.{kept-with}
 use Rattle.burst.proofs.Recorder.with_picture.Goals as goal
 
 pub returns : goal.returns
-returns c = kept-with c.args.self c.args.count _ c.next_entry-x.ensures
+returns c = kept-with c.args.self.now c.args.count _ c.next_entry-x.ensures
