@@ -82,7 +82,7 @@ module _ (r : Recorder) where
 
       pub close-written : (b' : Bytes)
           → b' ≡ put_bytes (put_bytes b 0 (recorder_header r)) r.used
-              (recorder_index r ++ closing_seal (edition_of r) r.key (identity_of r) (recorder_header r) (recorder_index r))
+          (recorder_index r ++ closing_seal (edition_of r) r.key (identity_of r) (recorder_header r) (recorder_index r))
           → b' ≡ close_buffer r b
       unfolding close_buffer recorder_seal
       close-written b' g = g ∙ sym (simp z)

@@ -71,7 +71,8 @@ pub const PICTURE_LENGTH_AT: usize = RECORD_OFFSET_AT + OFFSET_WIDTH;
 pub const ENTRY_LENGTH: usize = PICTURE_LENGTH_AT + OFFSET_WIDTH;
 
 // ---- the editions
-// The facts of an edition: its number in the header, the bytes of its header, its most shots, and the bytes of its camera number.
+// The facts of an edition: its number in the header, the bytes of its header, its most shots, and the bytes of its camera number. What holds of the table's rows
+// is `Known` in the contracts: as a ghost field it would ask a proof of every row that a spec makes, and the theorems would speak of fewer rows.
 #[derive(Clone, Copy, Debug, PartialEq, Eq)]
 pub struct Edition {
     pub number: u16,
@@ -148,7 +149,7 @@ pub struct Entry {
     pub length: u32,
 }
 
-// What a burst is recorded with. Proofs reach the arrays by position: a new field goes behind `closed`.
+// What a burst is recorded with. No Debug and no ==: it holds the key.
 #[derive(Clone, Copy)]
 pub struct Recorder {
     pub key: [u8; KEY_BYTES],
@@ -160,6 +161,7 @@ pub struct Recorder {
     pub kept: Place,
     // bytes of header and records
     pub used: u32,
+    // room for 60, of which the first `kept` count: "It holds .. 60 entries" (01), with no heap
     pub entries: [Entry; MAX_ENTRIES],
     pub closed: bool,
     pub camera: u32,
@@ -241,14 +243,6 @@ pub fn edition_written(key: usize) -> Edition
     ensures { (result ≡ written key) × Known result }
 {
     edition_numbered(WRITTEN)
-}
-
-// The bytes of a key or of a mark, which have as many.
-fn array_of(s: &[u8]) -> [u8; MARK_BYTES]
-    requires { length s.now ≡ mark_length }
-    ensures { result ≡ s.now }
-{
-    *s.first_chunk().unwrap()
 }
 
 fn new_recorder(
@@ -336,8 +330,8 @@ pub fn begin(
     let zeros = [0u8; MAX_HEADER];
     let n = e.header as usize;
     bytes_le::put_bytes(buffer, 0, &zeros[..n]);
-    let k = array_of(key);
-    let m = array_of(site_mark);
+    let k: [u8; KEY_BYTES] = key.try_into().unwrap();
+    let m: [u8; MARK_BYTES] = site_mark.try_into().unwrap();
     let name = Name {
         burst_number,
         camera,
@@ -360,6 +354,7 @@ fn nonce_of(e: Edition, name: Name, shot: Shot) -> [u8; NONCE_BYTES]
 }
 
 // ---- sealed parts: the one place of recorder and reader where the cipher is chosen. Every length is right, so that only a tag can be refused.
+// Edition, key, name and shot go in one by one: each call has a shot and mostly a key of its own, and a struct of them would be made for that call alone.
 // Seals a part at the front of out.
 fn seal_part(
     e: Edition,

@@ -73,12 +73,6 @@ header-header-requires c = let g = good _ _ c.in_default.ensures.number in (omeg
 pub index-index-requires : goal.index-index-requires
 index-index-requires c = let g = good _ _ c.in_default.ensures.number in omega (arith, g)
 
-pub slice_bounds-header-end : goal.slice_bounds-header-end
-slice_bounds-header-end c = (laid (goal.at.slice_bounds-header-end c).After-edition-m).header_most
-
-pub slice_bounds-put_end-end : goal.slice_bounds-put_end-end
-slice_bounds-put_end-end c = sym (laid (goal.at.slice_bounds-put_end-end c).After-edition-m).header_long
-
 pub slice_bounds-index-end : goal.slice_bounds-index-end
 slice_bounds-index-end c = (laid (goal.at.slice_bounds-index-end c).After-edition-m).index_most
 
@@ -92,9 +86,6 @@ put_end-requires c =
     let m = ap (λ (e : Edition). e.header) c.edition-m.ensures.0 in
     let n = c.index_length-n.ensures in
     (omega (arith, g, m, l.header_long), omega (arith, g, n, l.index_long), omega (arith, g, m, l.header_long), omega (arith, g, n, l.index_long))
-
-pub overflow_cast-total : goal.overflow_cast-total
-overflow_cast-total c = let g = good _ _ c.in_default.ensures.number in omega (arith, g, c.index_length-n.ensures)
 
 pub overflow_add-total : goal.overflow_add-total
 overflow_add-total c = let g = good _ _ c.in_default.ensures.number in omega (arith, g, c.index_length-n.ensures)

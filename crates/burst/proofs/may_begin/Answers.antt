@@ -18,9 +18,6 @@ returns-then-no_camera-clause-number c =
     begin-15 c.edition_written-e.result _ _ _ _ (omega arith) (omega arith) (sym c.no_camera.ensures ∙ c.if-no_camera.true)
     ∙ ap (λ (x : Edition). begin_number x c.args.key c.args.site_mark c.args.camera c.args.buffer) c.edition_written-e.ensures.0
 
-pub overflow_add-e : goal.overflow_add-e
-overflow_add-e c = let k = c.edition_written-e.ensures.1 in omega (arith, k)
-
 pub returns-then-buffer-e-clause-number : goal.returns-then-buffer-e-clause-number
 returns-then-buffer-e-clause-number c =
     begin-11 c.edition_written-e.result _ _ _ _ (omega arith) (omega arith) (sym c.no_camera.ensures ∙ c.if-no_camera.false) (omega arith)

@@ -3,7 +3,6 @@
 use mathlib.Core.List.{◌++◌}
 use mathlib.Core.Path.{ap, ◌∙◌}
 use Prim.Native.Nat.{ℕ, ◌+◌, ◌-◌}
-use native.Mathlib.Omega.{arith}
 use lib.ListN.{replicate}
 use Rattle.bytes_le.specs.Bytes.{put_bytes, le}
 use Rattle.burst.specs.declared.Edition.{Edition}
@@ -12,13 +11,6 @@ use Rattle.burst.specs.Layout.{header_bytes}
 use Rattle.burst.specs.Recorder.{name_of, recorder_header}
 use Rattle.burst.proofs.Puts.{header-put}
 use Rattle.burst.proofs.Recorder.header.Goals as goal
-
-pub overflow_add-closing-2 : goal.overflow_add-closing-2
-overflow_add-closing-2 c =
-    let n = c.index_length.ensures in omega (arith, n, c.requires)
-
-pub store_le-requires-10 : goal.store_le-requires-10
-store_le-requires-10 c = let k = c.edition-e.ensures.1 in omega (arith, k)
 
 pub returns : goal.returns
 unfolding recorder_header

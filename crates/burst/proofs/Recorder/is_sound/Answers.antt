@@ -21,11 +21,6 @@ returns-then-self-e c = refuted _ (λ h. let w = sounds _ _ h in omega (arith, w
 pub returns-then-self-2 : goal.returns-then-self-2
 returns-then-self-2 c = refuted _ (λ h. let w = sounds _ _ h in omega (arith, w, c.if-self-2))
 
-pub entries_ok-requires : goal.entries_ok-requires
-entries_ok-requires c =
-    let k = c.edition-e.ensures.1 in
-    (omega (arith, k.shots, c.if-self-2, c.if-self-e), k.header)
-
 pub returns : goal.returns
 returns c =
     let r = c.args.self.now in

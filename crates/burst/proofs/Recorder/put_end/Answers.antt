@@ -14,11 +14,6 @@ use Rattle.burst.specs.Recorder.{edition_of, identity_of}
 use Rattle.burst.proofs.Parts.{closing_at}
 use Rattle.burst.proofs.Recorder.put_end.Goals as goal
 
-pub seal_part-requires : goal.seal_part-requires
-seal_part-requires c =
-    let p = c.requires in
-    (omega arith, omega (arith, p), omega arith, omega (arith, p, c.put_bytes.auto, c.put_bytes-end.auto, c.put_bytes-end.ensures.0))
-
 pub returns : goal.returns
 returns c =
     let a = c.args in

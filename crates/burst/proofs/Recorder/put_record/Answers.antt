@@ -1,7 +1,7 @@
 -- `burst::Recorder::put_record` meets its contract.
 -- Assumes nothing.
 use mathlib.Core.List.{[], ◌++◌}
-use mathlib.Core.Path.{◌≡◌, refl, ap, ap₂, ◌∙◌}
+use mathlib.Core.Path.{refl, ap, ap₂, ◌∙◌}
 use Prim.Native.Nat.{◌+◌, ◌-◌}
 use native.Mathlib.Omega.{arith}
 use lib.ListN.{length, take, drop, length-drop}
@@ -13,15 +13,8 @@ use Rattle.burst.specs.declared.Name.{Name}
 use Rattle.burst.specs.Parts.{seal_part}
 use Rattle.burst.specs.Index.{bytes_of_entry}
 use Rattle.burst.specs.Recorder.{edition_of, name_of}
-use Rattle.burst.proofs.Puts.{length-entry-of}
 use Rattle.burst.proofs.Parts.{record-at}
 use Rattle.burst.proofs.Recorder.put_record.Goals as goal
-
-pub seal_part-requires : goal.seal_part-requires
-seal_part-requires c =
-    let p = c.requires in
-    let l : length c.entry_bytes-associated.result ≡ 12 = ap length c.entry_bytes-associated.ensures ∙ length-entry-of _ in
-    (p.1, omega (arith, l), p.2, omega (arith, p))
 
 pub returns : goal.returns
 unfolding bytes_of_entry
