@@ -14,7 +14,12 @@ use Rattle.bytes_le.proofs.Laws.{put-part, put-put, put_whole, length-put}
 use Rattle.icepole.specs.declared.Variant.TheVariants.{Icepole128}
 use Rattle.icepole.specs.Variants.{sizes}
 use Rattle.blocks.specs.Sealing.{blocks_before, sealed, secret_of, message_of}
-use Rattle.icepole.specs.Answers.{Opened, tag_agrees, opened_answer, seal_refusal, seal_output, open_refusal, open_answer, open_output, fits_output}
+use Rattle.std.specs.Prelude.{Result, Ok, Err, IsOk}
+use Rattle.std.proofs.Common.{rules}
+use Rattle.refusals.specs.declared.Refusal.{Refusal}
+use Rattle.refusals.specs.Numbers.{number_of}
+use Rattle.refusals.proofs.Laws.{positive}
+use Rattle.icepole.specs.Answers.{Sealed, sealed_as, seal_answer, Opened, tag_agrees, opened_answer, seal_refusal, seal_output, open_refusal, open_answer, open_output, fits_output}
 use Rattle.icepole.proofs.Numbers.{seal-0, open-0, open-decides}
 use Rattle.blocks.proofs.Opening.{opened, length-sealed, secret-of-sealed, message-of-sealed, tag-of-sealed, length-secret-of, length-message-of, seal-open}
 use Rattle.icepole.proofs.OpenedBytes.{secret-bytes, message-bytes}
@@ -26,6 +31,11 @@ use Rattle.burst.specs.Editions.{max_header}
 use Rattle.burst.specs.Parts.{seal_length, nonce_of, part_blocks, part_calls, seal_part, part_agrees, part_mark, part_body, part_refusal, part_answer, part_output, key_length, mark_length}
 use Rattle.burst.specs.Layout.{Identity, max_picture, max_index, entry_bytes, record_bytes, closing_seal}
 use Rattle.burst.proofs.Puts.{length-nonce}
+
+-- a call with number 0 was done
+done : {A : Type 0} (r : Result A Refusal) → number_of r ≡ 0 → IsOk r
+done (Ok x) h = search rules
+done (Err x) h = absurd (let p = positive x in omega (arith, p, h))
 
 module _ (e : Edition) (key : Bytes) (name : Name) (shot : ℕ) where
   -- ---- what was sealed
@@ -82,13 +92,20 @@ module _ (e : Edition) (key : Bytes) (name : Name) (shot : ℕ) where
     nonce16 : length nonce ≡ 16
     nonce16 = ap length is ∙ length-nonce e name shot
 
-    pub part-put : (mark body out : Bytes) → length mark ≡ mark_length → length body ≤ max_picture → length body + seal_length ≤ length out
-        → seal_output Icepole128 key nonce mark ad body out ≡ put_bytes out 0 (seal_part e key name shot mark ad body)
-    unfolding seal_output seal_refusal seal_part
-    part-put mark body out hm hb ho =
-        let z = seal-0 (sizes Icepole128) (length key) (length nonce) (length mark) (length ad) (length body) (length out) key16 nonce16 hm (omega arith) (omega arith)
-        (omega arith) in
-        (simp (sym z)) ∙ ap (λ (n : Bytes). put_bytes out 0 (sealed (sizes Icepole128) key n mark ad body)) is
+    module _ (mark body out : Bytes) (hm : length mark ≡ mark_length) (hb : length body ≤ max_picture) (ho : length body + seal_length ≤ length out) where
+      seals : 0 ≡ seal_refusal Icepole128 key nonce mark ad body out
+      unfolding seal_refusal
+      seals =
+          seal-0 (sizes Icepole128) (length key) (length nonce) (length mark) (length ad) (length body) (length out) key16 nonce16 hm (omega arith) (omega arith)
+          (omega arith)
+
+      pub part-done : (r : Result ℕ Refusal) → sealed_as r ≡ seal_answer Icepole128 key nonce mark ad body out → IsOk r
+      unfolding seal_answer
+      part-done r h = done r (ap (λ (x : Sealed). x.refusal) h ∙ sym seals)
+
+      pub part-put : seal_output Icepole128 key nonce mark ad body out ≡ put_bytes out 0 (seal_part e key name shot mark ad body)
+      unfolding seal_output seal_part
+      part-put = (simp (sym seals)) ∙ ap (λ (n : Bytes). put_bytes out 0 (sealed (sizes Icepole128) key n mark ad body)) is
 
     module _ (c : Bytes) (least : seal_length ≤ length c) (most : length c ≤ max_picture + seal_length) where
       swap : (b : Bool) → ◌≡◌ {A = ℕ} (cond (not b) 7 0) (cond b 0 7)

@@ -3,14 +3,11 @@
 use mathlib.Core.Bool.{Bool, true, false, cond, not}
 use mathlib.Core.List.{List, [], ◌∷◌}
 use mathlib.Core.Logic.{◌⊎◌, inl, inr}
-use mathlib.Core.Path.{◌≡◌, refl, sym, ap, subst, ◌∙◌}
-use Prim.Native.Nat.{ℕ, ◌+◌, ◌≤◌, ◌<◌, ◌^◌}
+use mathlib.Core.Path.{◌≡◌, refl, sym, ap, subst}
+use Prim.Native.Nat.{ℕ, ◌≤◌, ◌<◌, ◌^◌}
 use native.Mathlib.Omega.{arith}
-use native.Mathlib.Numerals.{add-one}
-use borrow.Author.Tests.{eq-eqb, ne_eqb}
 use lib.Dec.{eqb}
-use lib.ListN.{length, drop, get_or, drop_of_length-le}
-use lib.Seq.{drop-cons}
+use lib.ListN.{length, drop, drop_of_length-le}
 use Rattle.burst.specs.declared.Edition.{Edition}
 use Rattle.burst.specs.Fields.{camera_width}
 use Rattle.burst.specs.Editions.{edition1, editions, ◌among◌, row_in, numbered, written, camera_held, Known}
@@ -71,20 +68,10 @@ written-among k = subst (λ (e : Edition). e among editions) (written-numbered k
 pub written_known : (k : ℕ) → Known (written k)
 written_known k = known (written k) (written-among k)
 
--- ---- a turn of the search
+-- ---- the search
 pub search-starts : (n : ℕ) → numbered n ≡ row_in n (drop 0 editions)
 unfolding numbered
 search-starts n = refl
-
-module _ (n i : ℕ) (d : Edition) (h : i < length editions) where
-  pub row_here : (get_or editions i d).number ≡ n → row_in n (drop i editions) ≡ get_or editions i d
-  row_here e = ap (row_in n) (drop-cons editions i d h) ∙ simp (eq-eqb n (get_or editions i d).number (sym e))
-
-  pub row-later : ((get_or editions i d).number ≡ n → ⊥) → row_in n (drop i editions) ≡ row_in n (drop (i + 1) editions)
-  row-later e =
-      ap (row_in n) (drop-cons editions i d h)
-      ∙ (simp (ne_eqb n (get_or editions i d).number (λ q. e (sym q))))
-      ∙ ap (λ (k : ℕ). row_in n (drop k editions)) (sym (add-one i))
 
 pub row-nowhere : (n i : ℕ) → length editions ≤ i → row_in n (drop i editions) ≡ edition1
 row-nowhere n i h = ap (row_in n) (drop_of_length-le editions {i = i} h)

@@ -1,13 +1,15 @@
 -- The rules of the index as facts: each of them holds where the whole test does, and together they make it.
 -- Assumes nothing.
-use mathlib.Core.Bool.{Bool, true, false, not}
+use mathlib.Core.Bool.{Bool, true, false, not, true≢false}
 use mathlib.Core.List.{List, [], ◌∷◌}
 use mathlib.Core.Path.{◌≡◌, refl, sym, ap, ◌∙◌}
-use Prim.Native.Nat.{ℕ, suc, ◌+◌, ◌*◌, ◌≤◌, ◌<◌}
+use Prim.Native.Nat.{ℕ, ◌+◌, ◌*◌, ◌≤◌, ◌<◌}
 use native.Mathlib.Omega.{arith}
 use borrow.Author.Tests.{le-leb, eq-eqb, lt-ltb, leb-true, ltb-true, eqb-true}
 use lib.Dec.{eqb, leb, ltb}
 use lib.ListN.{length, take, drop, get_or, length-take, drop_of_length-le}
+use Rattle.std.specs.Ordering.{is_le, is_gt, nat_cmp}
+use Rattle.std.proofs.lemmas.Cmp.{ranked, by_ranked}
 use Rattle.std.proofs.lemmas.List.{at_drop_more}
 use Rattle.bits.proofs.Cases.{and-true}
 use Rattle.burst.specs.declared.Entry.{Entry}
@@ -30,6 +32,18 @@ clash false h g = let z : ◌≡◌ {A = ℕ} 0 1 = cc in omega arith
 pub not-holds : (b : Bool) → not b ≡ true → b ≡ false
 not-holds true h = sym h
 not-holds false h = refl
+
+-- what a comparison of two shot numbers tells
+module _ (a b : ℕ) where
+  pub not-le : is_le (nat_cmp a b) ≡ false → b < a
+  not-le h =
+      by_ranked (a < b) (a ≡ b) (b < a) (nat_cmp a b) (ranked a b _ refl) (λ e _. absurd (true≢false (sym (ap is_le e) ∙ h)))
+      (λ e _. absurd (true≢false (sym (ap is_le e) ∙ h))) (λ _ l. l)
+
+  pub is-gt : is_gt (nat_cmp a b) ≡ true → b < a
+  is-gt h =
+      by_ranked (a < b) (a ≡ b) (b < a) (nat_cmp a b) (ranked a b _ refl) (λ e _. absurd (true≢false (sym h ∙ ap is_gt e)))
+      (λ e _. absurd (true≢false (sym h ∙ ap is_gt e))) (λ _ l. l)
 
 -- ---- one entry
 pub record Obeys (last offset taken : ℕ) (e : Entry) : Type 0 where

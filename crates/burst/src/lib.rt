@@ -8,21 +8,22 @@ ghost use Rattle.icepole.specs.Answers.{opened_as};
 ghost use Rattle.burst.specs.Fields.{offset_width, entry_length};
 ghost use Rattle.burst.specs.Editions.{Known, numbered, written, no_camera, max_entries, max_header};
 ghost use Rattle.burst.specs.Parts.{seal_length, nonce_of, part_blocks, seal_part, part_answer, part_output, key_length, mark_length};
-ghost use Rattle.burst.specs.Layout.{identified, max_picture, max_index, header_bytes, record_bytes, closing_seal};
-ghost use Rattle.burst.specs.Numbers.{begin_number, keep_number, drop_number, close_number};
+ghost use Rattle.burst.specs.Layout.{identified, max_picture, max_index, record_bytes, closing_seal};
+ghost use Rattle.burst.specs.Numbers.{begin_number};
 ghost use Rattle.burst.specs.Index.{entry_of, entry_rules, index_rules, bytes_of_entry};
 ghost use Rattle.burst.specs.Recorder.{edition_of, name_of, identity_of, is_sound, new_recorder, no_recorder, begun_as, begin_answer, begin_buffer};
-ghost use Rattle.burst.specs.Recorder.{shot_as, drop_answer, after_keep, keep_answer, keep_buffer, recorder_index, closed_as, close_answer, close_buffer};
+ghost use Rattle.burst.specs.Recorder.{shot_as, drop_refusal, drop_answer, keep_refusal, after_keep, keep_answer, keep_buffer};
+ghost use Rattle.burst.specs.Recorder.{recorder_header, recorder_index, closed_as, close_refusal, close_answer, close_buffer};
 
 use icepole::{KEY_BYTES, NONCE_BYTES, Released, SECRET_BYTES, TAG_BYTES, Variant};
 use refusals::Refusal;
 
 // A shot number (01): counts firings from 1.
-#[derive(Clone, Copy)]
+#[derive(Clone, Copy, Debug, PartialEq, Eq, PartialOrd, Ord)]
 pub struct Shot(pub u16);
 
 // A place (01): counts kept pictures from 0.
-#[derive(Clone, Copy)]
+#[derive(Clone, Copy, Debug, PartialEq, Eq, PartialOrd, Ord)]
 pub struct Place(pub u16);
 
 // ---- the fields of header and index entry
@@ -70,8 +71,9 @@ pub const PICTURE_LENGTH_AT: usize = RECORD_OFFSET_AT + OFFSET_WIDTH;
 pub const ENTRY_LENGTH: usize = PICTURE_LENGTH_AT + OFFSET_WIDTH;
 
 // ---- the editions
-// The facts of an edition: its number in the header, the bytes of its header, its most shots, and the bytes of its camera number.
-#[derive(Clone, Copy)]
+// The facts of an edition: its number in the header, the bytes of its header, its most shots, and the bytes of its camera number. What holds of the table's rows
+// is `Known` in the contracts: as a ghost field it would ask a proof of every row that a spec makes, and the theorems would speak of fewer rows.
+#[derive(Clone, Copy, Debug, PartialEq, Eq)]
 pub struct Edition {
     pub number: u16,
     pub header: u32,
@@ -132,14 +134,14 @@ pub const MARK_BYTES: usize = SECRET_BYTES;
 pub const SEAL_LENGTH: u32 = (MARK_BYTES + TAG_BYTES) as u32;
 
 // What names a burst under its key: its number, and the camera's, 0 in an edition that has none.
-#[derive(Clone, Copy)]
+#[derive(Clone, Copy, Debug, PartialEq, Eq)]
 pub struct Name {
     pub burst_number: u64,
     pub camera: u32,
 }
 
 // An index entry: the record's offset in the file and the picture's length. `zeros` is the entry's field that is always zero.
-#[derive(Clone, Copy)]
+#[derive(Clone, Copy, Debug, PartialEq, Eq)]
 pub struct Entry {
     pub shot: Shot,
     pub zeros: u16,
@@ -147,7 +149,7 @@ pub struct Entry {
     pub length: u32,
 }
 
-// What a burst is recorded with. Proofs reach the arrays by position: a new field goes behind `closed`.
+// What a burst is recorded with. No Debug and no ==: it holds the key.
 #[derive(Clone, Copy)]
 pub struct Recorder {
     pub key: [u8; KEY_BYTES],
@@ -159,6 +161,7 @@ pub struct Recorder {
     pub kept: Place,
     // bytes of header and records
     pub used: u32,
+    // room for 60, of which the first `kept` count: "It holds .. 60 entries" (01), with no heap
     pub entries: [Entry; MAX_ENTRIES],
     pub closed: bool,
     pub camera: u32,
@@ -176,11 +179,10 @@ pub struct Outcome<T> {
 fn entry_ok(last: Shot, offset: u32, taken: Shot, x: Entry) -> bool
     ensures { result ≡ entry_rules last.0 offset taken.0 x }
 {
-    let shot = x.shot;
-    if shot.0 <= last.0 {
+    if x.shot <= last {
         return false;
     }
-    if shot.0 > taken.0 {
+    if x.shot > taken {
         return false;
     }
     if x.zeros != 0 {
@@ -228,16 +230,12 @@ pub fn no_entry() -> Entry
 pub fn edition_numbered(number: u16) -> Edition
     ensures { (result ≡ numbered number) × Known result }
 {
-    let rows = EDITIONS;
-    let mut i: usize = 0;
-    while i < EDITION_COUNT {
-        let e = rows[i];
+    for e in EDITIONS {
         if e.number == number {
             return e;
         }
-        i += 1;
     }
-    rows[0]
+    EDITIONS[0]
 }
 
 // The row that the writer makes, from the key's length.
@@ -245,50 +243,6 @@ pub fn edition_written(key: usize) -> Edition
     ensures { (result ≡ written key) × Known result }
 {
     edition_numbered(WRITTEN)
-}
-
-// The row of a recorder's burst.
-fn edition_of(r: Recorder) -> Edition
-    ensures { (result ≡ edition_of r) × Known result }
-{
-    let key = r.key;
-    edition_written(key.len())
-}
-
-// The name of a recorder's burst.
-fn name_of(r: Recorder) -> Name
-    ensures { result ≡ name_of r }
-{
-    Name {
-        burst_number: r.burst_number,
-        camera: r.camera,
-    }
-}
-
-fn sound(e: Edition, r: Recorder) -> bool
-    requires { Known e }
-    ensures { result ≡ is_sound e r }
-{
-    if r.closed {
-        return false;
-    }
-    if r.taken.0 > e.shots {
-        return false;
-    }
-    if r.kept.0 > r.taken.0 {
-        return false;
-    }
-    entries_ok(&r.entries[..r.kept.0 as usize], e.header, r.taken, r.used)
-}
-
-// The bytes of a key or of a mark, which have as many.
-fn array_of(s: &[u8]) -> [u8; MARK_BYTES]
-    requires { length s.now ≡ mark_length }
-    ensures { result ≡ s.now }
-{
-    let mut a = [0u8; MARK_BYTES];
-    bytes_le::put_bytes(&mut a, 0, s);
-    a
 }
 
 fn new_recorder(
@@ -325,15 +279,8 @@ pub fn no_camera(e: Edition, camera: u32) -> bool
 }
 
 // Whether begin is turned down, from the camera number and the lengths of what is lent.
-fn may_begin(
-    e: Edition,
-    key: usize,
-    site_mark: usize,
-    camera: u32,
-    buffer: usize,
-) -> Result<(), Refusal>
-    requires { Known e }
-    ensures number { number_of result ≡ begin_number e key site_mark camera buffer }
+fn may_begin(key: usize, site_mark: usize, camera: u32, buffer: usize) -> Result<(), Refusal>
+    ensures number { number_of result ≡ begin_number (written key) key site_mark camera buffer }
     ensures mark { mark_of result ≡ 0 }
 {
     if key != KEY_BYTES {
@@ -342,6 +289,7 @@ fn may_begin(
     if site_mark != MARK_BYTES {
         return Err(Refusal::SecretLength);
     }
+    let e = edition_written(key);
     if no_camera(e, camera) {
         return Err(Refusal::NoCameraNumber);
     }
@@ -372,18 +320,18 @@ pub fn begin(
     ensures answer { begun_as result ≡ begin_answer key.now (identified burst_number camera site_mark.now) buffer.old }
     ensures output { buffer.new ≡ begin_buffer key.now (identified burst_number camera site_mark.now) buffer.old }
 {
-    let e = edition_written(key.len());
-    if let Err(refusal) = may_begin(e, key.len(), site_mark.len(), camera, buffer.len()) {
+    if let Err(refusal) = may_begin(key.len(), site_mark.len(), camera, buffer.len()) {
         return Outcome {
             answer: Err(refusal),
             recorder: no_recorder(),
         };
     }
+    let e = edition_written(key.len());
     let zeros = [0u8; MAX_HEADER];
     let n = e.header as usize;
     bytes_le::put_bytes(buffer, 0, &zeros[..n]);
-    let k = array_of(key);
-    let m = array_of(site_mark);
+    let k: [u8; KEY_BYTES] = key.try_into().unwrap();
+    let m: [u8; MARK_BYTES] = site_mark.try_into().unwrap();
     let name = Name {
         burst_number,
         camera,
@@ -391,37 +339,6 @@ pub fn begin(
     Outcome {
         answer: Ok(()),
         recorder: new_recorder(k, name, m, e.header, false),
-    }
-}
-
-fn may_drop(e: Edition, r: Recorder) -> Result<(), Refusal>
-    requires { Known e }
-    ensures number { number_of result ≡ drop_number e (is_sound e r) r.taken.0 }
-    ensures mark { mark_of result ≡ 0 }
-{
-    if !sound(e, r) {
-        return Err(Refusal::NotSound);
-    }
-    if r.taken.0 >= e.shots {
-        return Err(Refusal::BurstFull);
-    }
-    Ok(())
-}
-
-pub fn drop_shot(r: Recorder) -> Outcome<Shot>
-    ensures { shot_as result ≡ drop_answer r }
-{
-    let e = edition_of(r);
-    if let Err(refusal) = may_drop(e, r) {
-        return Outcome {
-            answer: Err(refusal),
-            recorder: r,
-        };
-    }
-    let shot = Shot(r.taken.0 + 1);
-    Outcome {
-        answer: Ok(shot),
-        recorder: Recorder { taken: shot, ..r },
     }
 }
 
@@ -437,10 +354,11 @@ fn nonce_of(e: Edition, name: Name, shot: Shot) -> [u8; NONCE_BYTES]
 }
 
 // ---- sealed parts: the one place of recorder and reader where the cipher is chosen. Every length is right, so that only a tag can be refused.
+// Edition, key, name and shot go in one by one: each call has a shot and mostly a key of its own, and a struct of them would be made for that call alone.
 // Seals a part at the front of out.
 fn seal_part(
     e: Edition,
-    key: &[u8],
+    key: &[u8; KEY_BYTES],
     name: Name,
     shot: Shot,
     mark: &[u8],
@@ -449,13 +367,13 @@ fn seal_part(
     body: &[u8],
     out: &mut [u8],
 )
-    requires { (length key.now ≡ key_length) × (length mark.now ≡ mark_length) × (length first.now + length second.now ≤ max_header + max_index)
+    requires { (length mark.now ≡ mark_length) × (length first.now + length second.now ≤ max_header + max_index)
         × (length body.now ≤ max_picture) × (length body.now + seal_length ≤ length out.old) }
     ensures { out.new ≡ put_bytes out.old 0
         (seal_part e key.now name shot.0 mark.now (first.now ++ second.now) body.now) }
 {
     let nonce = nonce_of(e, name, shot);
-    let _ = icepole::seal(
+    icepole::seal(
         Variant::Icepole128,
         key,
         &nonce,
@@ -464,7 +382,8 @@ fn seal_part(
         second,
         body,
         out,
-    );
+    )
+    .unwrap();
 }
 
 // How many padded blocks sealing a part absorbs, from the lengths of its associated data and its body (02, N4).
@@ -536,114 +455,6 @@ fn entry_bytes(x: Entry) -> [u8; ENTRY_LENGTH]
     a
 }
 
-// Whether keep is turned down, from the lengths of what is lent.
-fn may_keep(
-    e: Edition,
-    r: Recorder,
-    stamp: usize,
-    picture: usize,
-    buffer: usize,
-) -> Result<(), Refusal>
-    requires { Known e }
-    ensures number { number_of result ≡ keep_number e (is_sound e r) r.taken.0 r.kept.0 r.used stamp picture buffer }
-    ensures mark { mark_of result ≡ 0 }
-{
-    if !sound(e, r) {
-        return Err(Refusal::NotSound);
-    }
-    if stamp != MARK_BYTES {
-        return Err(Refusal::SecretLength);
-    }
-    if r.taken.0 >= e.shots {
-        return Err(Refusal::BurstFull);
-    }
-    if picture < 1 {
-        return Err(Refusal::PictureLength);
-    }
-    if picture > MAX_PICTURE as usize {
-        return Err(Refusal::PictureLength);
-    }
-    let used = r.used as usize + picture + SEAL_LENGTH as usize;
-    let end = used + index_length(Place(r.kept.0 + 1));
-    if buffer < end + SEAL_LENGTH as usize {
-        return Err(Refusal::BufferTooShort);
-    }
-    Ok(())
-}
-
-// The entry of a recorder's next picture, which has so many bytes.
-fn next_entry(r: Recorder, count: u32) -> Entry
-    requires { r.taken.0 < max_entries }
-    ensures { result ≡ entry_of (r.taken.0 + 1) r.used count }
-{
-    Entry {
-        shot: Shot(r.taken.0 + 1),
-        zeros: 0,
-        offset: r.used,
-        length: count,
-    }
-}
-
-// Seals a recorder's next picture into the buffer, behind the records before it.
-fn put_record(e: Edition, r: Recorder, stamp: &[u8], picture: &[u8], buffer: &mut [u8])
-    requires { (r.taken.0 < max_entries) × (length stamp.now ≡ mark_length) × (length picture.now ≤ max_picture)
-        × (r.used + length picture.now + seal_length ≤ length buffer.old) }
-    ensures { buffer.new ≡ put_bytes buffer.old r.used
-        (record_bytes e r.key (name_of r) (r.taken.0 + 1) r.used stamp.now picture.now) }
-{
-    let x = next_entry(r, picture.len() as u32);
-    let associated = entry_bytes(x);
-    let none: [u8; 0] = [];
-    let key = r.key;
-    let start = r.used as usize;
-    seal_part(
-        e,
-        &key,
-        name_of(r),
-        x.shot,
-        stamp,
-        &associated,
-        &none,
-        picture,
-        &mut buffer[start..],
-    );
-}
-
-// The recorder after a picture of so many bytes.
-fn with_picture(r: Recorder, count: u32) -> Recorder
-    requires { (r.taken.0 < max_entries) × (r.kept.0 < max_entries) × (r.used + count + seal_length < 256 ^ offset_width) }
-    ensures { result ≡ after_keep r count }
-{
-    let x = next_entry(r, count);
-    let mut next = Recorder {
-        taken: x.shot,
-        kept: Place(r.kept.0 + 1),
-        used: r.used + count + SEAL_LENGTH,
-        ..r
-    };
-    next.entries[r.kept.0 as usize] = x;
-    next
-}
-
-pub fn keep(r: Recorder, stamp: &[u8], picture: &[u8], buffer: &mut [u8]) -> Outcome<Shot>
-    ensures answer { shot_as result ≡ keep_answer r stamp.now picture.now buffer.old }
-    ensures output { buffer.new ≡ keep_buffer r stamp.now picture.now buffer.old }
-{
-    let e = edition_of(r);
-    if let Err(refusal) = may_keep(e, r, stamp.len(), picture.len(), buffer.len()) {
-        return Outcome {
-            answer: Err(refusal),
-            recorder: r,
-        };
-    }
-    put_record(e, r, stamp, picture, buffer);
-    let next = with_picture(r, picture.len() as u32);
-    Outcome {
-        answer: Ok(next.taken),
-        recorder: next,
-    }
-}
-
 // Bytes of the entries before a place: with kept for the place, those of the whole index. No count of shots can be handed in.
 pub fn index_length(kept: Place) -> usize
     ensures { result ≡ entry_length * kept.0 }
@@ -651,104 +462,272 @@ pub fn index_length(kept: Place) -> usize
     ENTRY_LENGTH * (kept.0 as usize)
 }
 
-// The header of a recorder's file, and zeros behind it.
-fn header_of(e: Edition, r: Recorder) -> [u8; MAX_HEADER]
-    requires { Known e × (r.kept.0 ≤ r.taken.0) × (r.used + entry_length * r.kept.0 + seal_length < 256 ^ offset_width) }
-    ensures { result ≡ header_bytes e (name_of r) r.taken.0 r.kept.0 (r.taken.0 - r.kept.0) r.used
-        ++ replicate (max_header - e.header) 0 }
-{
-    let taken = r.taken.0;
-    let kept = r.kept.0;
-    let index = r.used as u64;
-    let closing = index + index_length(r.kept) as u64;
-    let mut h = [0u8; MAX_HEADER];
-    bytes_le::store_le(&mut h, EDITION_AT, COUNT_WIDTH, e.number as u64);
-    bytes_le::store_le(&mut h, TAKEN_AT, COUNT_WIDTH, taken as u64);
-    bytes_le::store_le(&mut h, KEPT_AT, COUNT_WIDTH, kept as u64);
-    bytes_le::store_le(&mut h, DROPPED_AT, COUNT_WIDTH, (taken - kept) as u64);
-    bytes_le::store_le(&mut h, BURST_NUMBER_AT, BURST_NUMBER_WIDTH, r.burst_number);
-    bytes_le::store_le(&mut h, PICTURE_OFFSET_AT, OFFSET_WIDTH, e.header as u64);
-    bytes_le::store_le(&mut h, INDEX_OFFSET_AT, OFFSET_WIDTH, index);
-    bytes_le::store_le(&mut h, CLOSING_OFFSET_AT, OFFSET_WIDTH, closing);
-    bytes_le::store_le(&mut h, TOTAL_AT, OFFSET_WIDTH, closing + SEAL_LENGTH as u64);
-    bytes_le::store_le(&mut h, CAMERA_AT, e.camera as usize, r.camera as u64);
-    h
+// What a recorder tells of its burst, and what it writes.
+impl Recorder {
+    // The row of its burst.
+    fn edition(&self) -> Edition
+        ensures { (result ≡ edition_of self.now) × Known result }
+    {
+        edition_written(self.key.len())
+    }
+
+    // The name of its burst.
+    fn name(&self) -> Name
+        ensures { result ≡ name_of self.now }
+    {
+        Name {
+            burst_number: self.burst_number,
+            camera: self.camera,
+        }
+    }
+
+    fn is_sound(&self) -> bool
+        ensures { result ≡ is_sound (edition_of self.now) self.now }
+    {
+        let e = self.edition();
+        if self.closed {
+            return false;
+        }
+        if self.taken.0 > e.shots {
+            return false;
+        }
+        if self.kept.0 > self.taken.0 {
+            return false;
+        }
+        entries_ok(
+            &self.entries[..self.kept.0 as usize],
+            e.header,
+            self.taken,
+            self.used,
+        )
+    }
+
+    // Whether a drop, a keep or a close is turned down.
+    fn may_drop(&self) -> Result<(), Refusal>
+        ensures number { number_of result ≡ drop_refusal self.now }
+        ensures mark { mark_of result ≡ 0 }
+    {
+        if !self.is_sound() {
+            return Err(Refusal::NotSound);
+        }
+        if self.taken.0 >= self.edition().shots {
+            return Err(Refusal::BurstFull);
+        }
+        Ok(())
+    }
+
+    fn may_keep(&self, stamp: &[u8], picture: &[u8], buffer: &[u8]) -> Result<(), Refusal>
+        ensures number { number_of result ≡ keep_refusal self.now stamp.now picture.now buffer.now }
+        ensures mark { mark_of result ≡ 0 }
+    {
+        if !self.is_sound() {
+            return Err(Refusal::NotSound);
+        }
+        if stamp.len() != MARK_BYTES {
+            return Err(Refusal::SecretLength);
+        }
+        if self.taken.0 >= self.edition().shots {
+            return Err(Refusal::BurstFull);
+        }
+        let count = picture.len();
+        if count < 1 {
+            return Err(Refusal::PictureLength);
+        }
+        if count > MAX_PICTURE as usize {
+            return Err(Refusal::PictureLength);
+        }
+        let used = self.used as usize + count + SEAL_LENGTH as usize;
+        let end = used + index_length(Place(self.kept.0 + 1));
+        if buffer.len() < end + SEAL_LENGTH as usize {
+            return Err(Refusal::BufferTooShort);
+        }
+        Ok(())
+    }
+
+    fn may_close(&self, buffer: &[u8]) -> Result<(), Refusal>
+        ensures number { number_of result ≡ close_refusal self.now buffer.now }
+        ensures mark { mark_of result ≡ 0 }
+    {
+        if !self.is_sound() {
+            return Err(Refusal::NotSound);
+        }
+        let end = self.used as usize + index_length(self.kept);
+        if buffer.len() < end + SEAL_LENGTH as usize {
+            return Err(Refusal::BufferTooShort);
+        }
+        Ok(())
+    }
+
+    // The entry of the next picture, which has so many bytes.
+    fn next_entry(&self, count: u32) -> Entry
+        requires { self.now.taken.0 < max_entries }
+        ensures { result ≡ entry_of (self.now.taken.0 + 1) self.now.used count }
+    {
+        Entry {
+            shot: Shot(self.taken.0 + 1),
+            zeros: 0,
+            offset: self.used,
+            length: count,
+        }
+    }
+
+    // Seals the next picture into the buffer, behind the records before it.
+    fn put_record(&self, stamp: &[u8], picture: &[u8], buffer: &mut [u8])
+        requires { (self.now.taken.0 < max_entries) × (length stamp.now ≡ mark_length) × (length picture.now ≤ max_picture)
+            × (self.now.used + length picture.now + seal_length ≤ length buffer.old) }
+        ensures { buffer.new ≡ put_bytes buffer.old self.now.used
+            (record_bytes (edition_of self.now) self.now.key (name_of self.now) (self.now.taken.0 + 1) self.now.used stamp.now picture.now) }
+    {
+        let x = self.next_entry(picture.len() as u32);
+        let associated = entry_bytes(x);
+        let start = self.used as usize;
+        seal_part(
+            self.edition(),
+            &self.key,
+            self.name(),
+            x.shot,
+            stamp,
+            &associated,
+            &[],
+            picture,
+            &mut buffer[start..],
+        );
+    }
+
+    // The recorder after a picture of so many bytes.
+    fn with_picture(&self, count: u32) -> Recorder
+        requires { (self.now.taken.0 < max_entries) × (self.now.kept.0 < max_entries)
+            × (self.now.used + count + seal_length < 256 ^ offset_width) }
+        ensures { result ≡ after_keep self.now count }
+    {
+        let x = self.next_entry(count);
+        let mut next = Recorder {
+            taken: x.shot,
+            kept: Place(self.kept.0 + 1),
+            used: self.used + count + SEAL_LENGTH,
+            ..*self
+        };
+        next.entries[self.kept.0 as usize] = x;
+        next
+    }
+
+    // The header of the file, and zeros behind it.
+    fn header(&self) -> [u8; MAX_HEADER]
+        requires { (self.now.kept.0 ≤ self.now.taken.0)
+            × (self.now.used + entry_length * self.now.kept.0 + seal_length < 256 ^ offset_width) }
+        ensures { result ≡ recorder_header self.now ++ replicate (max_header - (edition_of self.now).header) 0 }
+    {
+        let e = self.edition();
+        let taken = self.taken.0;
+        let kept = self.kept.0;
+        let index = self.used as u64;
+        let closing = index + index_length(self.kept) as u64;
+        let mut h = [0u8; MAX_HEADER];
+        bytes_le::store_le(&mut h, EDITION_AT, COUNT_WIDTH, e.number as u64);
+        bytes_le::store_le(&mut h, TAKEN_AT, COUNT_WIDTH, taken as u64);
+        bytes_le::store_le(&mut h, KEPT_AT, COUNT_WIDTH, kept as u64);
+        bytes_le::store_le(&mut h, DROPPED_AT, COUNT_WIDTH, (taken - kept) as u64);
+        bytes_le::store_le(
+            &mut h,
+            BURST_NUMBER_AT,
+            BURST_NUMBER_WIDTH,
+            self.burst_number,
+        );
+        bytes_le::store_le(&mut h, PICTURE_OFFSET_AT, OFFSET_WIDTH, e.header as u64);
+        bytes_le::store_le(&mut h, INDEX_OFFSET_AT, OFFSET_WIDTH, index);
+        bytes_le::store_le(&mut h, CLOSING_OFFSET_AT, OFFSET_WIDTH, closing);
+        bytes_le::store_le(&mut h, TOTAL_AT, OFFSET_WIDTH, closing + SEAL_LENGTH as u64);
+        bytes_le::store_le(&mut h, CAMERA_AT, e.camera as usize, self.camera as u64);
+        h
+    }
+
+    // The index of the file, at the front of what is returned.
+    fn index(&self) -> [u8; MAX_INDEX]
+        requires { self.now.kept.0 ≤ max_entries }
+        ensures { (length result ≡ max_index) × (take (entry_length * self.now.kept.0) result ≡ recorder_index self.now) }
+    {
+        let n = self.kept.0 as usize;
+        let mut b = [0u8; MAX_INDEX];
+        let mut at = 0;
+        for x in &self.entries[..n] {
+            at = put_entry(&mut b, at, *x);
+        }
+        b
+    }
+
+    // Writes header, index and closing seal of the file, from the header's and the index's bytes.
+    fn put_end(&self, header: &[u8], index: &[u8], buffer: &mut [u8])
+        requires { (length header.now ≤ max_header) × (length index.now ≤ max_index) × (length header.now ≤ self.now.used)
+            × (self.now.used + length index.now + seal_length ≤ length buffer.old) }
+        ensures { buffer.new ≡ put_bytes (put_bytes buffer.old 0 header.now) self.now.used
+            (index.now ++ closing_seal (edition_of self.now) self.now.key (identity_of self.now) header.now index.now) }
+    {
+        let at = self.used as usize;
+        bytes_le::put_bytes(buffer, 0, header);
+        let end = bytes_le::put_bytes(buffer, at, index);
+        seal_part(
+            self.edition(),
+            &self.key,
+            self.name(),
+            Shot(0),
+            &self.site_mark,
+            header,
+            index,
+            &[],
+            &mut buffer[end..],
+        );
+    }
 }
 
-// The index of a recorder's file, at the front of what is returned.
-fn index_of(r: Recorder) -> [u8; MAX_INDEX]
-    requires { r.kept.0 ≤ max_entries }
-    ensures { (length result ≡ max_index) × (take (entry_length * r.kept.0) result ≡ recorder_index r) }
+pub fn drop_shot(r: Recorder) -> Outcome<Shot>
+    ensures { shot_as result ≡ drop_answer r }
 {
-    let n = r.kept.0 as usize;
-    let mut b = [0u8; MAX_INDEX];
-    let mut i: usize = 0;
-    let mut at: usize = 0;
-    while i < n {
-        let x = r.entries[i];
-        at = put_entry(&mut b, at, x);
-        i += 1;
+    if let Err(refusal) = r.may_drop() {
+        return Outcome {
+            answer: Err(refusal),
+            recorder: r,
+        };
     }
-    b
+    let shot = Shot(r.taken.0 + 1);
+    Outcome {
+        answer: Ok(shot),
+        recorder: Recorder { taken: shot, ..r },
+    }
 }
 
-// Writes header, index and closing seal of a recorder's file, from the header's and the index's bytes.
-fn put_end(e: Edition, r: Recorder, header: &[u8], index: &[u8], buffer: &mut [u8])
-    requires { (length header.now ≤ max_header) × (length index.now ≤ max_index) × (length header.now ≤ r.used)
-        × (r.used + length index.now + seal_length ≤ length buffer.old) }
-    ensures { buffer.new ≡ put_bytes (put_bytes buffer.old 0 header.now) r.used
-        (index.now ++ closing_seal e r.key (identity_of r) header.now index.now) }
+pub fn keep(r: Recorder, stamp: &[u8], picture: &[u8], buffer: &mut [u8]) -> Outcome<Shot>
+    ensures answer { shot_as result ≡ keep_answer r stamp.now picture.now buffer.old }
+    ensures output { buffer.new ≡ keep_buffer r stamp.now picture.now buffer.old }
 {
-    let at = r.used as usize;
-    bytes_le::put_bytes(buffer, 0, header);
-    let end = bytes_le::put_bytes(buffer, at, index);
-    let none: [u8; 0] = [];
-    let key = r.key;
-    let site_mark = r.site_mark;
-    seal_part(
-        e,
-        &key,
-        name_of(r),
-        Shot(0),
-        &site_mark,
-        header,
-        index,
-        &none,
-        &mut buffer[end..],
-    );
-}
-
-fn may_close(e: Edition, r: Recorder, buffer: usize) -> Result<(), Refusal>
-    requires { Known e }
-    ensures number { number_of result ≡ close_number (is_sound e r) r.kept.0 r.used buffer }
-    ensures mark { mark_of result ≡ 0 }
-{
-    if !sound(e, r) {
-        return Err(Refusal::NotSound);
+    if let Err(refusal) = r.may_keep(stamp, picture, buffer) {
+        return Outcome {
+            answer: Err(refusal),
+            recorder: r,
+        };
     }
-    let end = r.used as usize + index_length(r.kept);
-    if buffer < end + SEAL_LENGTH as usize {
-        return Err(Refusal::BufferTooShort);
+    r.put_record(stamp, picture, buffer);
+    let next = r.with_picture(picture.len() as u32);
+    Outcome {
+        answer: Ok(next.taken),
+        recorder: next,
     }
-    Ok(())
 }
 
 pub fn close(r: Recorder, buffer: &mut [u8]) -> Outcome<u32>
     ensures answer { closed_as result ≡ close_answer r buffer.old }
     ensures output { buffer.new ≡ close_buffer r buffer.old }
 {
-    let e = edition_of(r);
-    if let Err(refusal) = may_close(e, r, buffer.len()) {
+    if let Err(refusal) = r.may_close(buffer) {
         return Outcome {
             answer: Err(refusal),
             recorder: r,
         };
     }
-    let header = header_of(e, r);
-    let index = index_of(r);
+    let header = r.header();
+    let index = r.index();
     let n = index_length(r.kept);
-    let m = e.header as usize;
-    put_end(e, r, &header[..m], &index[..n], buffer);
+    let m = r.edition().header as usize;
+    r.put_end(&header[..m], &index[..n], buffer);
     let total = r.used + n as u32 + SEAL_LENGTH;
     Outcome {
         answer: Ok(total),

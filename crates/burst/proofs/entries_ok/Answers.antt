@@ -1,6 +1,6 @@
 -- `burst::entries_ok` meets its contract. The loop's invariant: the rules of all entries come to those of the entries that are left.
 -- Assumes nothing.
-use mathlib.Core.Path.{refl, sym, ◌∙◌}
+use mathlib.Core.Path.{sym, ◌∙◌}
 use native.Mathlib.Omega.{arith}
 use Rattle.burst.specs.declared.Entry.{Entry}
 use Rattle.burst.proofs.Rules.{obeys, turn, fault, ended}
@@ -8,9 +8,6 @@ use Rattle.burst.proofs.entries_ok.Goals as goal
 
 abbrev nothing : Entry
 nothing = record { shot = record { 0 = 0 }; zeros = 0; offset = 0; length = 0 }
-
-pub loop-x-init : goal.loop-x-init
-loop-x-init c = (omega arith, refl)
 
 pub returns-then-not-entry_ok : goal.returns-then-not-entry_ok
 returns-then-not-entry_ok c =

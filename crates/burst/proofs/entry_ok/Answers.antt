@@ -1,14 +1,16 @@
 -- `burst::entry_ok` meets its contract: a rule that is broken refutes the test.
 -- Assumes nothing.
+use mathlib.Core.Path.{sym, ◌∙◌}
 use native.Mathlib.Omega.{arith}
-use Rattle.burst.proofs.Rules.{refuted, obeys, last-rule}
+use Rattle.std.proofs.lemmas.Map.Keys.{le_from_is_le, le_from_not_gt}
+use Rattle.burst.proofs.Rules.{refuted, not-le, is-gt, obeys, last-rule}
 use Rattle.burst.proofs.entry_ok.Goals as goal
 
-pub returns-then-shot-last : goal.returns-then-shot-last
-returns-then-shot-last c = refuted _ (λ h. let w = obeys _ _ _ _ h in omega (arith, w, c.if-shot-last))
+pub returns-then-le : goal.returns-then-le
+returns-then-le c = refuted _ (λ h. let w = obeys _ _ _ _ h in let l = le_from_is_le c.args.x.shot.0 c.args.last.0 (sym c.le.ensures ∙ c.if-le.true) in omega (arith, w, l))
 
-pub returns-then-shot-taken : goal.returns-then-shot-taken
-returns-then-shot-taken c = refuted _ (λ h. let w = obeys _ _ _ _ h in omega (arith, w, c.if-shot-taken))
+pub returns-then-gt : goal.returns-then-gt
+returns-then-gt c = refuted _ (λ h. let w = obeys _ _ _ _ h in let l = is-gt c.args.x.shot.0 c.args.taken.0 (sym c.gt.ensures ∙ c.if-gt.true) in omega (arith, w, l))
 
 pub returns-then-x-ne0 : goal.returns-then-x-ne0
 returns-then-x-ne0 c = refuted _ (λ h. let w = obeys _ _ _ _ h in c.if-x-ne0.true w.zeros)
@@ -20,4 +22,6 @@ pub returns-then-x-lt1 : goal.returns-then-x-lt1
 returns-then-x-lt1 c = refuted _ (λ h. let w = obeys _ _ _ _ h in omega (arith, w, c.if-x-lt1))
 
 pub returns : goal.returns
-returns c = last-rule _ _ _ _ (omega arith) (omega arith) (omega arith) (omega arith) (omega arith)
+returns c =
+    last-rule _ _ _ _ (not-le _ _ (sym c.le.ensures ∙ c.if-le.false)) (le_from_not_gt _ _ (sym c.gt.ensures ∙ c.if-gt.false))
+    (omega arith) (omega arith) (omega arith)

@@ -2,11 +2,8 @@
 -- Assumes nothing.
 use mathlib.Core.List.{◌++◌}
 use mathlib.Core.Path.{◌∙◌}
-use Prim.Native.Nat.{◌+◌, ◌≤◌}
 use native.Mathlib.Omega.{arith}
-use lib.ListN.{length, length-append}
-use Rattle.burst.specs.Editions.{max_header}
-use Rattle.burst.specs.Layout.{max_index}
+use lib.ListN.{length-append}
 use Rattle.burst.proofs.Parts.{part-opened, part-written}
 use Rattle.burst.proofs.open_part.Goals as goal
 

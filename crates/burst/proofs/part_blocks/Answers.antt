@@ -2,7 +2,6 @@
 -- Assumes nothing.
 use mathlib.Core.Path.{◌≡◌, ap, ◌∙◌}
 use Prim.Native.Nat.{ℕ}
-use native.Mathlib.Omega.{arith}
 use Rattle.blocks.specs.declared.Sizes.{Sizes}
 use Rattle.padded_blocks.specs.PaddedBlocks.{seal_blocks}
 use Rattle.burst.specs.Parts.{part_blocks}
@@ -11,9 +10,6 @@ use Rattle.burst.proofs.part_blocks.Goals.{After-sizes_of-q}
 
 block : (c : After-sizes_of-q) → c.sizes_of-q.result.block ≡ 128
 block c = ap (λ (q : Sizes). q.block) c.sizes_of-q.ensures
-
-pub seal_blocks-requires : goal.seal_blocks-requires
-seal_blocks-requires c = let e = block (goal.at.seal_blocks-requires c).After-sizes_of-q in (omega arith, omega arith, omega arith)
 
 pub returns : goal.returns
 unfolding part_blocks
