@@ -4,7 +4,6 @@ use mathlib.Core.Path.{◌∙◌}
 use Rattle.std.proofs.Common.{rules, tests}
 use Rattle.std.proofs.lemmas.Iterator.{YieldsList-from_slice}
 use Rattle.std.proofs.lemmas.Iterator.Search.{any_from_yields_List}
-use Rattle.burst.specs.Layout.{max_picture}
 use Rattle.sizing.proofs.Numbers.{long-any}
 use Rattle.sizing.proofs.too_long.Goals as goal
 
