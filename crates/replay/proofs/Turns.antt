@@ -5,7 +5,6 @@ use mathlib.Core.Path.{◌≡◌, refl, sym, ap, ap₂, ◌∙◌}
 use mathlib.Core.Option.{some}
 use Prim.Native.Nat.{ℕ, suc, ◌+◌, ◌-◌, ◌*◌, ◌≤◌, ◌<◌}
 use native.Mathlib.Omega.{arith}
-use native.Mathlib.Nat.{sub-zero, zero-add}
 use lib.Dec.{eqb}
 use lib.ListN.{length, drop}
 use Rattle.bytes_le.specs.Bytes.{Bytes, put_bytes}
@@ -27,16 +26,6 @@ module _ (script : Bytes) (room : ℕ) (r₀ : Recorder) (b₀ a₀ : Bytes) whe
     pub rest : script_rest (room - i) s ≡ script_rest room script
     pub buffer : buffer_from r b (script_calls (room - i) s) ≡ buffer_from r₀ b₀ All
     pub answers : put_bytes a (8 * i) (answers_bytes (answers_from r b (script_calls (room - i) s))) ≡ put_bytes a₀ 0 (answers_bytes (answers_from r₀ b₀ All))
-
-  pub all_left : Left r₀ b₀ a₀ script 0
-  all_left =
-      let e : script_calls (room - 0) script ≡ All = ap (λ (n : ℕ). script_calls n script) (sub-zero room) in
-      record {
-        count = zero-add _ ∙ ap length e;
-        rest = ap (λ (n : ℕ). script_rest n script) (sub-zero room);
-        buffer = ap (buffer_from r₀ b₀) e;
-        answers = ap (λ (cs : List Call). put_bytes a₀ 0 (answers_bytes (answers_from r₀ b₀ cs))) e;
-      }
 
   module _ (r : Recorder) (b a s : Bytes) (i : ℕ) (w : Left r b a s i) where
     -- where no call is left: i calls, and whole where nothing is left of the script

@@ -3,9 +3,9 @@
 use mathlib.Core.Bool.{Bool, false, cond}
 use mathlib.Core.List.{List, ◌++◌}
 use mathlib.Core.Path.{◌≡◌, refl, sym, ap, ap₂, ◌∙◌}
-use Prim.Native.Nat.{ℕ, ◌+◌, ◌-◌, ◌/◌, ◌≤◌, ◌<◌}
+use Prim.Native.Nat.{ℕ, ◌+◌, ◌-◌, ◌/◌, ◌≤◌}
 use native.Mathlib.Omega.{arith}
-use borrow.Author.Tests.{lt-ltb, le-ltb}
+use borrow.Author.Tests.{le-ltb}
 use lib.Dec.{eqb}
 use lib.ListN.{length, take, drop}
 use Rattle.bytes_le.specs.Bytes.{Bytes, put_bytes, le}
@@ -19,18 +19,6 @@ use Rattle.trace.proofs.Agreement.{agreement}
 use Rattle.replay.specs.declared.Performed.{Performed}
 use Rattle.replay.specs.Replay.{script_calls, script_rest, answers_bytes, list_of, whole_script, Replayed}
 use Rattle.replay.proofs.Scripts.{calls-most, answers-length, bytes-length}
-
-pub nothing-done : (l : CallList) (a b script : Bytes) → length a < 8 → Replayed l a a b b 0 × (false ≡ whole_script (length a) script)
-nothing-done l a b script h =
-    let d : Replayed l a a b b 0 =
-    record {
-      nothing = λ _. (refl, refl, refl);
-      count = λ g. absurd (omega arith);
-      answers = λ g. absurd (omega arith);
-      buffer = λ g. absurd (omega arith);
-      file = λ g. absurd (omega arith);
-    } in
-    (d, sym (ap (λ (v : Bool). cond v false (eqb (length (script_rest (length a / 8 - 1) script)) 0)) (lt-ltb (length a) 8 h)))
 
 module _ (key : Bytes) (i : Identity) (script b a : Bytes) (h : 8 ≤ length a) where
   abbrev room : ℕ

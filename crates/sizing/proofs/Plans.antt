@@ -6,7 +6,7 @@ use mathlib.Core.Path.{◌≡◌, refl, sym, ap, ap₂, subst, ◌∙◌}
 use Prim.Native.Nat.{ℕ, suc, ◌+◌, ◌*◌, ◌≤◌, ◌<◌}
 use native.Mathlib.Numerals.{add-one}
 use native.Mathlib.Omega.{arith}
-use borrow.Author.Tests.{eq-eqb, ne_eqb, eqb-true, eqb-false, le-ltb}
+use borrow.Author.Tests.{ne_eqb, eqb-true, eqb-false, le-ltb}
 use lib.Dec.{eqb}
 use lib.ListN.{length, drop, get_or, replicate, length-append, length-replicate, drop_of_length-le}
 use lib.Seq.{drop-cons}
@@ -35,9 +35,6 @@ use Rattle.sizing.specs.Sums.{record_blocks, first_sums, with_shot, with_shots, 
 
 -- ---- one shot
 module _ (e : Edition) (s : Sums) (n : ℕ) where
-  pub shot-dropped : n ≡ 0 → s ≡ with_shot e s n
-  shot-dropped h = sym (simp (eq-eqb n 0 h))
-
   abbrev with : ℕ → Sums
   with blocks = record { used = used_after s.used n; kept = record { 0 = s.kept.0 + 1 }; blocks = s.blocks + blocks }
 

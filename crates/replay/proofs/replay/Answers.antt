@@ -10,11 +10,8 @@ use Rattle.bytes_le.specs.Bytes.{put_bytes, le}
 use Rattle.replay.specs.declared.Performed.{Performed}
 use Rattle.burst.specs.Layout.{identified}
 use Rattle.replay.proofs.Scripts.{calls-most}
-use Rattle.replay.proofs.Whole.{nothing-done, all_done}
+use Rattle.replay.proofs.Whole.{all_done}
 use Rattle.replay.proofs.replay.Goals as goal
-
-pub returns-then-answers-lt-ANSWER_LENGTH : goal.returns-then-answers-lt-ANSWER_LENGTH
-returns-then-answers-lt-ANSWER_LENGTH c = nothing-done _ _ _ _ (omega arith)
 
 pub overflow_add-result : goal.overflow_add-result
 overflow_add-result c =

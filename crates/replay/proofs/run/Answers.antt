@@ -1,6 +1,6 @@
 -- `replay::run` meets its contract. The loop's invariant: the calls that are left, performed from here, leave what all calls leave from the start.
 -- Assumes nothing.
-use mathlib.Core.Path.{◌≡◌, refl, sym, ap, ap₂, subst, ◌∙◌}
+use mathlib.Core.Path.{◌≡◌, sym, ap, ap₂, subst, ◌∙◌}
 use mathlib.Core.List.{◌++◌}
 use Prim.Native.Nat.{ℕ, suc, ◌+◌, ◌-◌, ◌*◌}
 use native.Mathlib.Omega.{arith}
@@ -10,11 +10,8 @@ use Rattle.bytes_le.specs.Bytes.{Bytes, put_bytes, le}
 use Rattle.trace.specs.Plain.{Answer}
 use Rattle.replay.specs.Replay.{script_calls, script_rest}
 use Rattle.replay.proofs.Scripts.{first_fits, left-none, value-is}
-use Rattle.replay.proofs.Turns.{Left, all_left, none_left, turned}
+use Rattle.replay.proofs.Turns.{Left, none_left, turned}
 use Rattle.replay.proofs.run.Goals as goal
-
-pub loop-i-init : goal.loop-i-init
-loop-i-init c = record { answers = refl; buffer = refl; left = all_left _ _ _ _ _ }
 
 pub returns-in_default : goal.returns-in_default
 returns-in_default c =

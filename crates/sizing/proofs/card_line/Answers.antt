@@ -1,6 +1,6 @@
 -- `sizing::card_line` meets its contract.
 -- Assumes nothing.
-use mathlib.Core.Path.{sym, ap, ◌∙◌}
+use mathlib.Core.Path.{ap, ◌∙◌}
 use Rattle.refusals.proofs.Laws.{passed-on}
 use Rattle.sizing.specs.Cards.{capacity_as}
 use Rattle.sizing.proofs.Cards.{card-refused, card-done}
@@ -10,9 +10,6 @@ pub returns-in_err-may_print : goal.returns-in_err-may_print
 returns-in_err-may_print c =
     let m = c.in_err-may_print.ensures in
     ap capacity_as (passed-on _ _ c.from_residual.ensures.1) ∙ card-refused _ c.edition_written-e.ensures.0 c.args.card _ _ _ m.number m.mark
-
-pub full_length-each-requires : goal.full_length-each-requires
-full_length-each-requires c = (c.edition_written-e.ensures.1, sym c.in_ok-may_print.ensures.number)
 
 pub returns : goal.returns
 returns c = card-done _ c.edition_written-e.ensures.0 c.args.card _ _ c.in_ok-may_print.ensures.number _ c.full_length-each.ensures.0

@@ -1,6 +1,6 @@
 -- `sizing::sums_of` meets its contract. The loop's invariant: the shots that are left, added to the sums of those before, make the sums of all.
 -- Assumes nothing.
-use mathlib.Core.Path.{◌≡◌, refl, sym, ap, subst, ◌∙◌}
+use mathlib.Core.Path.{◌≡◌, sym, ap, subst, ◌∙◌}
 use Prim.Native.Nat.{ℕ, ◌+◌}
 use native.Mathlib.Omega.{arith}
 use lib.ListN.{length, drop}
@@ -9,19 +9,6 @@ use Rattle.sizing.specs.Sums.{with_shots, After}
 use Rattle.sizing.proofs.Numbers.{short-here}
 use Rattle.sizing.proofs.Plans.{shots-turn, shots-end}
 use Rattle.sizing.proofs.sums_of.Goals as goal
-
-pub loop-n-init : goal.loop-n-init
-loop-n-init c =
-    let k = c.requires.0 in
-    record { short = c.requires.2; bounds = record { used = omega (arith, k); kept = omega arith; blocks = omega arith }; sums = refl }
-
-pub with_shot-s-requires : goal.with_shot-s-requires
-with_shot-s-requires c =
-    let l = c.loop-n in
-    let b = l.invariant.bounds in
-    let k = c.requires in
-    let g = short-here c.args.lengths.now l.n-index c.loop-n-test.true l.invariant.short in
-    (g.0, record { used = omega (arith, b, k, c.loop-n-test); kept = omega (arith, b, k, c.loop-n-test); blocks = omega (arith, b, k, c.loop-n-test) })
 
 pub loop-n-preserved : goal.loop-n-preserved
 loop-n-preserved c =
