@@ -2,7 +2,7 @@
 // carton (02, N2): how many full bursts a card holds.
 #![tactic(auto)]
 
-ghost use Rattle.std.specs.Prelude.{◌≡◌, false, ◌+◌, ◌≤◌, length};
+ghost use Rattle.std.specs.Prelude.{◌≡◌, false, ◌+◌, ◌≤◌, ltb, length};
 ghost use Rattle.refusals.specs.Numbers.{number_of, mark_of};
 ghost use Rattle.burst.specs.Editions.{Known, max_entries};
 ghost use Rattle.burst.specs.Layout.{max_picture};
@@ -30,11 +30,11 @@ struct Sums {
     blocks: u64,
 }
 
-// Whether one of the lengths is above that of a picture.
-fn too_long(lengths: &[u64]) -> bool
-    ensures { result ≡ too_long lengths.now }
+// Whether a picture of n bytes is longer than any that can be kept.
+fn too_long(n: u64) -> bool
+    ensures { result ≡ ltb max_picture n }
 {
-    lengths.iter().any(|n| *n > MAX_PICTURE as u64)
+    n > MAX_PICTURE as u64
 }
 
 // The whole list is judged for 9 before a length is looked at.
@@ -45,7 +45,7 @@ fn may_size_up(e: Edition, lengths: &[u64]) -> Result<(), Refusal>
     if lengths.len() > e.shots as usize {
         return Err(Refusal::BurstFull);
     }
-    if too_long(lengths) {
+    if lengths.iter().any(|n| too_long(*n)) {
         return Err(Refusal::PictureLength);
     }
     Ok(())
@@ -119,7 +119,7 @@ fn may_print(e: Edition, shots: u64, picture: u64) -> Result<(), Refusal>
     if picture < 1 {
         return Err(Refusal::PictureLength);
     }
-    if picture > MAX_PICTURE as u64 {
+    if too_long(picture) {
         return Err(Refusal::PictureLength);
     }
     Ok(())

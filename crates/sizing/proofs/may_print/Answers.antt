@@ -1,6 +1,8 @@
 -- `sizing::may_print` meets its contract.
 -- Assumes nothing.
+use mathlib.Core.Path.{sym, ◌∙◌}
 use native.Mathlib.Omega.{arith}
+use borrow.Author.Tests.{ltb-true, ltb-false}
 use Rattle.sizing.proofs.Cards.{card-16, card-16', card-10, card-10', card-0}
 use Rattle.sizing.proofs.may_print.Goals as goal
 
@@ -13,8 +15,10 @@ returns-then-shots-e-clause-number c = card-16' _ _ _ (λ z. omega arith) (omega
 pub returns-then-picture-lt1-clause-number : goal.returns-then-picture-lt1-clause-number
 returns-then-picture-lt1-clause-number c = card-10 _ _ _ (λ z. omega arith) (omega arith) (omega arith)
 
-pub returns-then-picture-clause-number : goal.returns-then-picture-clause-number
-returns-then-picture-clause-number c = card-10' _ _ _ (λ z. omega arith) (omega arith) (omega arith) (omega arith)
+pub returns-then-too_long-clause-number : goal.returns-then-too_long-clause-number
+returns-then-too_long-clause-number c =
+    card-10' _ _ _ (λ z. omega arith) (omega arith) (omega arith) (ltb-true _ _ (sym c.too_long.ensures ∙ c.if-too_long.true))
 
 pub returns-clause-number : goal.returns-clause-number
-returns-clause-number c = card-0 _ _ _ (λ z. omega arith) (omega arith) (omega arith) (omega arith)
+returns-clause-number c =
+    card-0 _ _ _ (λ z. omega arith) (omega arith) (omega arith) (ltb-false _ _ (sym c.too_long.ensures ∙ c.if-too_long.false))
