@@ -1,32 +1,35 @@
--- Scripts, call by call: what stands first, and what a turn of `run` does.
+-- Scripts, call by call: what stands first, and what is left behind it.
 -- Assumes nothing.
 use mathlib.Core.Bool.{Bool, true, false, cond}
 use mathlib.Core.List.{List, [], ◌∷◌, ◌++◌}
 use mathlib.Core.Logic.{◌⊎◌, inl, inr}
 use mathlib.Core.Option.{Option, some, none, some-injective}
 use mathlib.Core.Path.{◌≡◌, refl, sym, ap, ap₂, ◌∙◌}
-use Prim.Native.Nat.{ℕ, zero, suc, ◌+◌, ◌-◌, ◌*◌, ◌≤◌, ◌<◌}
+use Prim.Native.Nat.{ℕ, zero, suc, ◌+◌, ◌*◌, ◌≤◌, ◌<◌}
 use native.Mathlib.Omega.{arith}
-use native.Mathlib.Nat.{add-zero}
 use borrow.Author.Tests.{eq-eqb, ne_eqb, lt-ltb, le-ltb, eqb-false, ltb-false}
 use lib.Dec.{eqb, ltb}
-use lib.ListN.{length, take, drop, length-drop}
-use lib.Seq.{drop-drop}
-use Rattle.bytes_le.specs.Bytes.{Bytes, put_bytes, le, unle, le_at}
+use lib.ListN.{length, take, drop}
+use Rattle.std.specs.Prelude.{Result, Ok, Err, Some, None, slice_get}
+use Rattle.std.specs.Result.{result_unwrap_or}
+use Rattle.refusals.specs.declared.Refusal.{Refusal}
+use Rattle.refusals.specs.Numbers.{value_or}
+use Rattle.bytes_le.specs.Bytes.{Bytes, put_bytes, le, le_at}
 use Rattle.bytes_le.proofs.Laws.{put-put}
 use Rattle.burst.specs.declared.Recorder.{Recorder}
-use Rattle.burst.specs.declared.ShotAnswer.{ShotAnswer}
-use Rattle.burst.specs.declared.Closed.{Closed}
-use Rattle.trace.specs.Plain.{by_value, Call, drop_shot, close_burst, Answer}
-use Rattle.burst.specs.Recorder.{keep_answer, keep_buffer, drop_answer, close_answer, close_buffer}
-use Rattle.trace.specs.Trace.{next_recorder, next_buffer, answer_to, answers_from}
-use Rattle.replay.specs.declared.Step.{Step}
-use Rattle.replay.specs.Replay.{stamp_length, picture_length, keep_length, keep_in, first_call, following, script_calls, leaving, script_rest, answers_bytes, step_of, step_buffer}
+use Rattle.trace.specs.Plain.{by_value, Call, keep_shot, drop_shot, close_burst, Answer}
+use Rattle.trace.specs.Trace.{next_recorder, next_buffer, answers_from}
+use Rattle.replay.specs.Replay.{stamp_length, picture_length, keep_length, keep_in, first_call, following, script_calls, leaving, script_rest, answers_bytes}
 
--- a number of a script's part
-pub part-number : (n i j : ℕ) (s : Bytes) → le_at n (drop i s) j ≡ le_at n s (i + j)
+-- ---- the first byte
+pub no-byte : (s : Bytes) → None ≡ slice_get s 0 → length s ≡ 0
+no-byte [] h = refl
+no-byte (x ∷ s) h = let z : ◌≡◌ {A = ℕ} 0 1 = cc in absurd (omega arith)
+
+pub first-byte : (s : Bytes) (x : ℕ) → Some x ≡ slice_get s 0 → (length s ≡ 0 → ⊥) × (le_at 1 s 0 ≡ x)
 unfolding le_at
-part-number n i j s = ap (λ (l : Bytes). unle (take n l)) (drop-drop j i s)
+first-byte [] x h = let z : ◌≡◌ {A = ℕ} 0 1 = cc in absurd (omega arith)
+first-byte (y ∷ s) x h = let e : x ≡ y = cc in (λ z. omega arith, omega arith)
 
 -- ---- the first call
 module _ (s : Bytes) where
@@ -55,6 +58,15 @@ module _ (s : Bytes) where
       pub first-keep : keep_length s ≤ length s → first_call s ≡ some (keep_in s, keep_length s)
       unfolding first_call
       first-keep h = simp (ne_eqb (length s) 0 hs, h₂, le-ltb (length s) (keep_length s) h)
+
+      -- as the code has stamp and picture
+      pub keep-first : (m p n₁ n₂ : ℕ) → m ≡ stamp_length s → p ≡ picture_length s → n₁ ≡ m → n₂ ≡ p → 6 + m + p ≤ length s
+          → some (keep_shot (take n₁ (drop 6 s)) (take n₂ (drop (6 + m) s)), 6 + m + p) ≡ first_call s
+      keep-first m p n₁ n₂ em ep e₁ e₂ h =
+          let l : 6 + m + p ≡ keep_length s = omega arith in
+          let c : keep_shot (take n₁ (drop 6 s)) (take n₂ (drop (6 + m) s)) ≡ keep_in s =
+          ap₂ keep_shot (ap (λ (n : ℕ). take n (drop 6 s)) (e₁ ∙ em)) (ap₂ (λ (n k : ℕ). take n (drop (6 + k) s)) (e₂ ∙ ep) em) in
+          ap₂ (λ (c : Call) (n : ℕ). some (c, n)) c l ∙ sym (first-keep (omega arith))
 
 not_none : (b : Bool) (o : Option (Call × ℕ)) (x : Call × ℕ) → cond b none o ≡ some x → (b ≡ false) × (o ≡ some x)
 not_none true o x h = let z : ◌≡◌ {A = ℕ} 0 1 = cc in absurd (omega arith)
@@ -112,144 +124,23 @@ pub bytes-length : (ts : List Answer) → length (answers_bytes ts) ≡ 8 * leng
 bytes-length [] = refl
 bytes-length (t ∷ ts) = let h = bytes-length ts in omega arith
 
--- ---- a turn
--- what is left: count, buffer and answers, as if the calls that remain were performed from here
-module _ (r : Recorder) (b : Bytes) (position : ℕ) (script : Bytes) (st : Step) where
-  abbrev first : Option (Call × ℕ)
-  first = first_call (drop position script)
+-- ---- what is left of the calls and of the script s behind its first call, or where there is none
+module _ (n : ℕ) (s : Bytes) where
+  pub left-none : first_call s ≡ none → (script_calls (suc n) s ≡ []) × (script_rest (suc n) s ≡ s)
+  left-none e =
+      (ap (λ (o : Option (Call × ℕ)). following o (λ m. script_calls n (drop m s))) e, ap (λ (o : Option (Call × ℕ)). leaving o s (λ m. script_rest n (drop m s))) e)
 
-  module _ (is : st ≡ step_of r b position first) where
-    pub stops : st.more ≡ false → first ≡ none
-    stops h = by first refl
-      where
-        by : (o : Option (Call × ℕ)) → first ≡ o → first ≡ none
-        by none e = e
-        by (some x) e =
-            let g : true ≡ false = sym (ap (λ (y : Step). y.more) is ∙ ap (λ (o : Option (Call × ℕ)). (step_of r b position o).more) e) ∙ h in
-            let z : ◌≡◌ {A = ℕ} 0 1 = cc in
-            absurd (omega arith)
+  pub left-some : (x : Call × ℕ) → first_call s ≡ some x
+      → (script_calls (suc n) s ≡ x.0 ∷ script_calls n (drop x.1 s)) × (script_rest (suc n) s ≡ script_rest n (drop x.1 s))
+  left-some x e =
+      (ap (λ (o : Option (Call × ℕ)). following o (λ m. script_calls n (drop m s))) e, ap (λ (o : Option (Call × ℕ)). leaving o s (λ m. script_rest n (drop m s))) e)
 
-    pub goes : st.more ≡ true → (x : Call × ℕ) × (first ≡ some x)
-    goes h = by first refl
-      where
-        by : (o : Option (Call × ℕ)) → first ≡ o → (x : Call × ℕ) × (first ≡ some x)
-        by none e =
-            let g : false ≡ true = sym (ap (λ (y : Step). y.more) is ∙ ap (λ (o : Option (Call × ℕ)). (step_of r b position o).more) e) ∙ h in
-            let z : ◌≡◌ {A = ℕ} 0 1 = cc in
-            absurd (omega arith)
-        by (some x) e = (x, e)
+-- ---- an answer's two numbers, and the value as the code works it out
+pub put-two : (a a₁ a₂ : Bytes) (at i₁ num value : ℕ) → i₁ ≡ at + 4 → a₁ ≡ put_bytes a at (le 4 num) → a₂ ≡ put_bytes a₁ i₁ (le 4 value) → at + 8 ≤ length a
+    → a₂ ≡ put_bytes a at (le 4 num ++ le 4 value)
+put-two a a₁ a₂ at i₁ num value e e₁ e₂ h =
+    e₂ ∙ ap₂ (λ (x : Bytes) (i : ℕ). put_bytes x i (le 4 value)) e₁ e ∙ put-put a at (le 4 num) (le 4 value) (at + 4) refl (omega arith)
 
--- the calls that are left, where there is none
-pub left-none : (n position : ℕ) (script : Bytes) → first_call (drop position script) ≡ none → script_calls (suc n) (drop position script) ≡ []
-left-none n position script e = ap (λ (o : Option (Call × ℕ)). following o (λ m. script_calls n (drop m (drop position script)))) e
-
--- and where there is one
-pub left-some : (n position : ℕ) (script : Bytes) (x : Call × ℕ) → first_call (drop position script) ≡ some x
-    → script_calls (suc n) (drop position script) ≡ x.0 ∷ script_calls n (drop (position + x.1) script)
-left-some n position script x e =
-    ap (λ (o : Option (Call × ℕ)). following o (λ m. script_calls n (drop m (drop position script)))) e
-    ∙ ap (λ (s : Bytes). x.0 ∷ script_calls n s) (drop-drop x.1 position script)
-
--- what is left then, behind the calls
-pub rest-none : (n position : ℕ) (script : Bytes) → first_call (drop position script) ≡ none → script_rest (suc n) (drop position script) ≡ drop position script
-rest-none n position script e = ap (λ (o : Option (Call × ℕ)). leaving o (drop position script) (λ m. script_rest n (drop m (drop position script)))) e
-
-pub rest_some : (n position : ℕ) (script : Bytes) (x : Call × ℕ) → first_call (drop position script) ≡ some x
-    → script_rest (suc n) (drop position script) ≡ script_rest n (drop (position + x.1) script)
-rest_some n position script x e =
-    ap (λ (o : Option (Call × ℕ)). leaving o (drop position script) (λ m. script_rest n (drop m (drop position script)))) e
-    ∙ ap (script_rest n) (drop-drop x.1 position script)
-
--- one more answer
-pub answer-put : (a a₁ a₂ rest : Bytes) (at i₁ num value : ℕ) → i₁ ≡ at + 4 → a₁ ≡ put_bytes a at (le 4 num) → a₂ ≡ put_bytes a₁ i₁ (le 4 value) → at + 8 + length rest ≤ length a
-    → put_bytes a₂ (at + 8) rest ≡ put_bytes a at ((le 4 num ++ le 4 value) ++ rest)
-answer-put a a₁ a₂ rest at i₁ num value e e₁ e₂ h =
-    let e₃ : a₂ ≡ put_bytes a at (le 4 num ++ le 4 value) =
-    e₂ ∙ ap₂ (λ (x : Bytes) (i : ℕ). put_bytes x i (le 4 value)) e₁ e ∙ put-put a at (le 4 num) (le 4 value) (at + 4) refl (omega arith) in
-    ap (λ (x : Bytes). put_bytes x (at + 8) rest) e₃ ∙ put-put a at (le 4 num ++ le 4 value) rest (at + 8) refl h
-
--- ---- what stands at a position
-module _ (r : Recorder) (b script : Bytes) (position : ℕ) where
-  abbrev here : Bytes
-  here = drop position script
-
-  here-length : length here ≡ length script - position
-  here-length = length-drop position script
-
-  here-kind : le_at 1 here 0 ≡ le_at 1 script position
-  here-kind = part-number 1 position 0 script ∙ ap (le_at 1 script) (add-zero position)
-
-  abbrev Does : Step → Bytes → Type 0
-  Does st b' = (st ≡ step_of r b position (first_call here)) × (b' ≡ step_buffer r b (first_call here))
-
-  by-none : first_call here ≡ none → Does (record { more = false; next = position; refusal = 0; value = 0; recorder = r }) b
-  by-none e = (ap (step_of r b position) (sym e), ap (step_buffer r b) (sym e))
-
-  by-some : (x : Call × ℕ) → first_call here ≡ some x → (st : Step) (b' : Bytes) → st ≡ step_of r b position (some x) → b' ≡ step_buffer r b (some x) → Does st b'
-  by-some x e st b' f g = (f ∙ ap (step_of r b position) (sym e), g ∙ ap (step_buffer r b) (sym e))
-
-  pub end-here : length script ≤ position → Does (record { more = false; next = position; refusal = 0; value = 0; recorder = r }) b
-  end-here h = let l = here-length in by-none (first-end here (omega arith))
-
-  module _ (hp : position < length script) where
-    some-here : length here ≡ 0 → ⊥
-    some-here e = let l = here-length in omega arith
-
-    pub drop_here : le_at 1 script position ≡ 0 → (k : ShotAnswer) → k ≡ drop_answer r
-        → Does (record { more = true; next = position + 1; refusal = k.refusal; value = k.shot.0; recorder = k.recorder }) b
-    unfolding answer_to next_recorder next_buffer
-    drop_here h k e =
-        by-some (drop_shot by_value, 1) (first-drop here some-here (here-kind ∙ h)) _ b
-        (ap (λ (y : ShotAnswer). let st : Step = record { more = true; next = position + 1; refusal = y.refusal; value = y.shot.0; recorder = y.recorder } in st) e) refl
-
-    pub close-here : le_at 1 script position ≡ 1 → (k : Closed) (b' : Bytes) → k ≡ close_answer r b → b' ≡ close_buffer r b
-        → Does (record { more = true; next = position + 1; refusal = k.refusal; value = k.total; recorder = k.recorder }) b'
-    unfolding answer_to next_recorder next_buffer
-    close-here h k b' e f =
-        by-some (close_burst, 1) (first-close here some-here (here-kind ∙ h)) _ b'
-        (ap (λ (y : Closed). let st : Step = record { more = true; next = position + 1; refusal = y.refusal; value = y.total; recorder = y.recorder } in st) e) f
-
-    pub other-here : (le_at 1 script position ≡ 0 → ⊥) → (le_at 1 script position ≡ 1 → ⊥) → (le_at 1 script position ≡ 2 → ⊥)
-        → Does (record { more = false; next = position; refusal = 0; value = 0; recorder = r }) b
-    other-here h₀ h₁ h₂ = by-none (first-other here some-here (λ e. h₀ (sym here-kind ∙ e)) (λ e. h₁ (sym here-kind ∙ e)) (λ e. h₂ (sym here-kind ∙ e)))
-
-    module _ (hk : le_at 1 script position ≡ 2) where
-      keep-kind : le_at 1 here 0 ≡ 2
-      keep-kind = here-kind ∙ hk
-
-      pub cut-here : length script - position < 6 → Does (record { more = false; next = position; refusal = 0; value = 0; recorder = r }) b
-      cut-here h = let l = here-length in by-none (first-cut here some-here keep-kind (omega arith))
-
-      module _ (s p : ℕ) (es : s ≡ le_at 1 script (position + 1)) (ep : p ≡ le_at 4 script (position + 2)) where
-        stamp-is : stamp_length here ≡ s
-        stamp-is = part-number 1 position 1 script ∙ sym es
-
-        picture-is : picture_length here ≡ p
-        picture-is = part-number 4 position 2 script ∙ sym ep
-
-        pub short-here : length script - position < 6 + (s + p) → Does (record { more = false; next = position; refusal = 0; value = 0; recorder = r }) b
-        short-here h =
-            let l = here-length in
-            let e₁ = stamp-is in
-            let e₂ = picture-is in
-            by-none (first-cut here some-here keep-kind (omega arith))
-
-        pub keep-here : 6 + (s + p) ≤ length script - position → (n₁ n₂ next : ℕ) → n₁ ≡ s → n₂ ≡ p → next ≡ position + (6 + (s + p))
-            → (k : ShotAnswer) (b' : Bytes) → k ≡ keep_answer r (take n₁ (drop (position + 6) script)) (take n₂ (drop (position + 6 + s) script)) b
-            → b' ≡ keep_buffer r (take n₁ (drop (position + 6) script)) (take n₂ (drop (position + 6 + s) script)) b
-            → Does (record { more = true; next = next; refusal = k.refusal; value = k.shot.0; recorder = k.recorder }) b'
-        unfolding answer_to next_recorder next_buffer
-        keep-here h n₁ n₂ next e₁ e₂ en k b' ek eb =
-            let l = here-length in
-            let q₁ = stamp-is in
-            let q₂ = picture-is in
-            let a₁ : take n₁ (drop (position + 6) script) ≡ take (stamp_length here) (drop 6 here) =
-            ap₂ (λ (n : ℕ) (t : Bytes). take n t) (e₁ ∙ sym q₁) (sym (drop-drop 6 position script)) in
-            let i : position + 6 + s ≡ position + (6 + stamp_length here) = omega arith in
-            let a₂ : take n₂ (drop (position + 6 + s) script) ≡ take (picture_length here) (drop (6 + stamp_length here) here) =
-            ap₂ (λ (n : ℕ) (t : Bytes). take n t) (e₂ ∙ sym q₂) (ap (λ (j : ℕ). drop j script) i ∙ sym (drop-drop (6 + stamp_length here) position script)) in
-            let n : next ≡ position + keep_length here = omega arith in
-            by-some _ (first-keep here some-here keep-kind (omega arith)) _ b'
-            (ap₂ (λ (y : ShotAnswer) (j : ℕ). let st : Step = record { more = true; next = j; refusal = y.refusal; value = y.shot.0; recorder = y.recorder } in st)
-            (ek ∙ ap₂ (λ (x y : Bytes). keep_answer r x y b) a₁ a₂) n)
-            (eb ∙ ap₂ (λ (x y : Bytes). keep_buffer r x y b) a₁ a₂)
+pub value-is : (r : Result ℕ Refusal) → result_unwrap_or r 0 ≡ value_or (λ n. n) 0 r
+value-is (Ok n) = refl
+value-is (Err e) = refl

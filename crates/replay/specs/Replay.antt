@@ -1,14 +1,15 @@
 -- A list of calls as bytes, and what performing it leaves: demand 3's first sentence about running code.
 -- Assumes nothing.
 use Rattle.std.specs.Prelude.{Bool, true, false, cond, List, [], ◌∷◌, ◌++◌, ◌≡◌, ℕ, zero, suc, ◌+◌, ◌-◌, ◌/◌, ◌≤◌, ◌<◌, eqb, ltb, length, take, drop}
+use Rattle.std.specs.Prelude.{Some, None}
 use Rattle.std.proofs.Math.Option.{Option, some, none}
 use Rattle.bytes_le.specs.Bytes.{Bytes, put_bytes, le, le_at}
-use Rattle.burst.specs.declared.Recorder.{Recorder}
 use Rattle.burst.specs.Layout.{Identity}
 use Rattle.trace.specs.Plain.{by_value, Call, keep_shot, drop_shot, close_burst, CallList, Answer, plain_of, plain_answers, total_of, file_of}
-use Rattle.trace.specs.Trace.{next_recorder, next_buffer, answer_to, run_buffer}
+use Rattle.trace.specs.Trace.{run_buffer}
 use Rattle.trace.specs.Agreement.{Reached, edition_for}
-use Rattle.replay.specs.declared.Step.{Step}
+use Rattle.replay.specs.declared.ScriptCall.{ScriptCall}
+use Rattle.replay.specs.declared.ScriptCall.TheVariants.{Drop, Close, Keep}
 
 -- ---- a script: the calls one after another
 -- 0 is a drop, 1 a close, 2 a keep, and stamp length (1 byte), picture length (4), stamp and picture follow it; no other byte is a call
@@ -70,20 +71,15 @@ abbrev pub answers_bytes : List Answer → Bytes
 answers_bytes [] = []
 answers_bytes (a ∷ answers) = answer_bytes a ++ answers_bytes answers
 
--- ---- one call of a script, from a position on
-abbrev pub step_of : Recorder → Bytes → ℕ → Option (Call × ℕ) → Step
-step_of r b position none = record { more = false; next = position; refusal = 0; value = 0; recorder = r }
-step_of r b position (some x) = record {
-  more = true;
-  next = position + x.1;
-  refusal = (answer_to r b x.0).number;
-  value = (answer_to r b x.0).value;
-  recorder = next_recorder r b x.0;
-}
+-- ---- what the code has for a call, and for the first one
+abbrev pub call_as : ScriptCall → Call
+call_as Drop = drop_shot by_value
+call_as Close = close_burst
+call_as (Keep stamp picture) = keep_shot stamp.now picture.now
 
-abbrev pub step_buffer : Recorder → Bytes → Option (Call × ℕ) → Bytes
-step_buffer r b none = b
-step_buffer r b (some x) = next_buffer r b x.0
+abbrev pub first_as : Rattle.std.specs.Prelude.Option (ScriptCall × ℕ) → Option (Call × ℕ)
+first_as None = none
+first_as (Some x) = some (call_as x.0, x.1)
 
 -- ---- the whole
 -- the list that a script says, where so many bytes are lent for the answers: begin's answer needs room, and each call's as much more

@@ -1,20 +1,21 @@
 // Performs a list of calls, given as bytes, on a real recorder and buffer, and writes every answer out.
 #![tactic(auto)]
 
-ghost use Rattle.std.specs.Prelude.{◌≡◌, false, ◌+◌, ◌*◌, ◌≤◌, ◌<◌, eqb, length, drop};
-ghost use Rattle.bytes_le.specs.Bytes.{put_bytes, le_at};
-ghost use Rattle.trace.specs.Trace.{answers_from, buffer_from};
-ghost use Rattle.replay.specs.Replay.{first_call, script_calls, script_rest, answers_bytes, answer_length, step_of, step_buffer, list_of, whole_script, Replayed};
+ghost use Rattle.std.specs.Prelude.{◌≡◌, ◌++◌, ◌+◌, ◌*◌, ◌≤◌, eqb, length};
+ghost use Rattle.bytes_le.specs.Bytes.{put_bytes, le, le_at};
+ghost use Rattle.trace.specs.Trace.{shot_told, total_told, answer_to, next_recorder, next_buffer, answers_from, buffer_from};
+ghost use Rattle.replay.specs.Replay.{number_width, answer_length, call_as, first_as, first_call, script_calls, script_rest, answers_bytes, list_of, whole_script, Replayed};
 ghost use Rattle.burst.specs.Layout.{identified};
+ghost use Rattle.burst.specs.Recorder.{shot_as, closed_as};
 
-use burst::Recorder;
+use burst::{Outcome, Recorder, Shot};
 
-// The bytes of a script that are calls.
-const DROP: u64 = 0;
+// The bytes of a script that begin a call.
+const DROP: u8 = 0;
 
-const CLOSE: u64 = 1;
+const CLOSE: u8 = 1;
 
-const KEEP: u64 = 2;
+const KEEP: u8 = 2;
 
 // Bytes of a picture's length in a script, and of each of an answer's two numbers; of a keep before its stamp; and of an answer.
 const NUMBER_WIDTH: usize = 4;
@@ -23,96 +24,78 @@ const KEEP_FRONT: usize = 2 + NUMBER_WIDTH;
 
 const ANSWER_LENGTH: usize = NUMBER_WIDTH + NUMBER_WIDTH;
 
-// What one call of a script leaves: whether there was one, where the next stands, its answer and the recorder.
+// A call of a script.
 #[derive(Clone, Copy)]
-pub struct Step {
-    pub more: bool,
-    pub next: usize,
-    pub refusal: u32,
-    pub value: u32,
-    pub recorder: Recorder,
+enum ScriptCall<'a> {
+    Drop,
+    Close,
+    Keep { stamp: &'a [u8], picture: &'a [u8] },
 }
 
-// What is left where the script ends.
-fn stopped(r: Recorder, position: usize) -> Step
-    ensures { result ≡ record { more = false; next = position; refusal = 0; value = 0; recorder = r } }
+// As `first_call`, where the first byte begins a keep.
+fn first_keep(script: &[u8]) -> Option<(ScriptCall, usize)>
+    requires { (1 ≤ length script.now) × (le_at 1 script.now 0 ≡ 2) }
+    ensures { first_as result ≡ first_call script.now }
 {
-    Step {
-        more: false,
-        next: position,
-        refusal: 0,
-        value: 0,
-        recorder: r,
+    if script.len() < KEEP_FRONT {
+        return None;
     }
+    let stamp = KEEP_FRONT + bytes_le::load_le(script, 1, 1) as usize;
+    let end = stamp + bytes_le::load_le(script, 2, NUMBER_WIDTH) as usize;
+    if script.len() < end {
+        return None;
+    }
+    let call = ScriptCall::Keep {
+        stamp: &script[KEEP_FRONT..stamp],
+        picture: &script[stamp..end],
+    };
+    Some((call, end))
 }
 
-// As `perform`, for a keep.
-fn keep_step(r: Recorder, script: &[u8], position: usize, buffer: &mut [u8]) -> Step
-    requires { (position < length script.now) × (le_at 1 script.now position ≡ 2) }
-    ensures { (result ≡ step_of r buffer.old position (first_call (drop position script.now))) ×
-        (buffer.new ≡ step_buffer r buffer.old (first_call (drop position script.now))) }
+// The first call of a script and how many bytes it takes; none at the script's end, where a keep is cut by it, and at a byte that begins no call.
+fn first_call(script: &[u8]) -> Option<(ScriptCall, usize)>
+    ensures { first_as result ≡ first_call script.now }
 {
-    let left = script.len() - position;
-    if left < KEEP_FRONT {
-        return stopped(r, position);
-    }
-    let stamp = bytes_le::load_le(script, position + 1, 1) as usize;
-    let picture = bytes_le::load_le(script, position + 2, NUMBER_WIDTH) as usize;
-    if left < KEEP_FRONT + (stamp + picture) {
-        return stopped(r, position);
-    }
-    let first = position + KEEP_FRONT;
-    let mid = first + stamp;
-    let end = mid + picture;
-    let k = burst::keep(r, &script[first..mid], &script[mid..end], buffer);
-    let shot = k.shot;
-    let recorder = k.recorder;
-    Step {
-        more: true,
-        next: end,
-        refusal: k.refusal,
-        value: shot.0 as u32,
-        recorder,
+    match *script.first()? {
+        DROP => Some((ScriptCall::Drop, 1)),
+        CLOSE => Some((ScriptCall::Close, 1)),
+        KEEP => first_keep(script),
+        _ => None,
     }
 }
 
-// Performs the call that stands at a position of the script.
-fn perform(r: Recorder, script: &[u8], position: usize, buffer: &mut [u8]) -> Step
-    requires { position ≤ length script.now }
-    ensures { (result ≡ step_of r buffer.old position (first_call (drop position script.now))) ×
-        (buffer.new ≡ step_buffer r buffer.old (first_call (drop position script.now))) }
+// What a keep or a drop answers, with the shot number as a plain number.
+fn with_number(k: Outcome<Shot>) -> Outcome<u32>
+    ensures { (total_told (closed_as result) ≡ shot_told (shot_as k)) × (result.recorder ≡ k.recorder) }
 {
-    if position >= script.len() {
-        return stopped(r, position);
+    Outcome {
+        answer: k.answer.map(|shot| u32::from(shot.0)),
+        recorder: k.recorder,
     }
-    let kind = bytes_le::load_le(script, position, 1);
-    if kind == DROP {
-        let k = burst::drop_shot(r);
-        let shot = k.shot;
-        let recorder = k.recorder;
-        return Step {
-            more: true,
-            next: position + 1,
-            refusal: k.refusal,
-            value: shot.0 as u32,
-            recorder,
-        };
+}
+
+// Performs a call: it answers a shot number, or a close the total.
+fn perform(r: Recorder, call: ScriptCall, buffer: &mut [u8]) -> Outcome<u32>
+    ensures answer { total_told (closed_as result) ≡ answer_to r buffer.old (call_as call.entry) }
+    ensures recorder { result.recorder ≡ next_recorder r buffer.old (call_as call.entry) }
+    ensures output { buffer.new ≡ next_buffer r buffer.old (call_as call.entry) }
+{
+    match call {
+        ScriptCall::Drop => with_number(burst::drop_shot(r)),
+        ScriptCall::Close => burst::close(r, buffer),
+        ScriptCall::Keep { stamp, picture } => {
+            with_number(burst::keep(r, stamp, picture, buffer))
+        }
     }
-    if kind == CLOSE {
-        let k = burst::close(r, buffer);
-        let recorder = k.recorder;
-        return Step {
-            more: true,
-            next: position + 1,
-            refusal: k.refusal,
-            value: k.total,
-            recorder,
-        };
-    }
-    if kind != KEEP {
-        return stopped(r, position);
-    }
-    keep_step(r, script, position, buffer)
+}
+
+// Writes an answer: its refusal number, 0 when done, and then its value, 0 with a refusal.
+fn put_answer(answers: &mut [u8], at: usize, number: u32, value: u32)
+    requires { at + answer_length ≤ length answers.old }
+    ensures { answers.new ≡ put_bytes answers.old at (le number_width number ++ le number_width value) }
+{
+    let next = bytes_le::store_le(answers, at, NUMBER_WIDTH, number as u64);
+    bytes_le::store_le(answers, next, NUMBER_WIDTH, value as u64);
 }
 
 // How many answers were written, and whether the whole script was performed.
@@ -122,13 +105,13 @@ pub struct Performed {
     pub whole: bool,
 }
 
-// What to answer where the calls end at a position.
-fn ended(count: usize, script: &[u8], position: usize) -> Performed
-    ensures { result ≡ record { count = count; whole = eqb position (length script.now) } }
+// What to answer where the calls end and so much of the script is left.
+fn ended(count: usize, rest: &[u8]) -> Performed
+    ensures { result ≡ record { count = count; whole = eqb (length rest.now) 0 } }
 {
     Performed {
         count,
-        whole: position == script.len(),
+        whole: rest.is_empty(),
     }
 }
 
@@ -146,20 +129,19 @@ fn run(
         (answers.new ≡ put_bytes answers.old 0 (answers_bytes (answers_from start buffer.old (script_calls room script.now)))) }
 {
     let mut r = start;
-    let mut position: usize = 0;
-    let mut i: usize = 0;
-    while i < room {
-        let s = perform(r, script, position, buffer);
-        if !s.more {
-            return ended(i, script, position);
-        }
-        let next = bytes_le::store_le(answers, ANSWER_LENGTH * i, NUMBER_WIDTH, s.refusal as u64);
-        bytes_le::store_le(answers, next, NUMBER_WIDTH, s.value as u64);
-        r = s.recorder;
-        position = s.next;
-        i += 1;
+    let mut rest = script;
+    for i in 0..room {
+        let Some((call, taken)) = first_call(rest) else {
+            return ended(i, rest);
+        };
+        let k = perform(r, call, buffer);
+        let number = refusals::number_of(&k.answer);
+        let value = k.answer.unwrap_or(0);
+        put_answer(answers, ANSWER_LENGTH * i, number, value);
+        r = k.recorder;
+        rest = &rest[taken..];
     }
-    ended(i, script, position)
+    ended(room, rest)
 }
 
 // Performs a begin and then a script, and writes the answers one behind the other.
@@ -185,13 +167,16 @@ pub fn replay(
     }
     let room = answers.len() / ANSWER_LENGTH - 1;
     let b = burst::begin(key, burst_number, camera, site_mark, buffer);
-    let next = bytes_le::store_le(answers, 0, NUMBER_WIDTH, b.refusal as u64);
-    bytes_le::store_le(answers, next, NUMBER_WIDTH, 0);
-    let r = b.recorder;
-    let p = run(r, script, room, buffer, &mut answers[ANSWER_LENGTH..]);
-    let count = 1 + p.count;
+    put_answer(answers, 0, refusals::number_of(&b.answer), 0);
+    let p = run(
+        b.recorder,
+        script,
+        room,
+        buffer,
+        &mut answers[ANSWER_LENGTH..],
+    );
     Performed {
-        count,
+        count: 1 + p.count,
         whole: p.whole,
     }
 }

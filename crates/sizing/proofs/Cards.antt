@@ -10,6 +10,9 @@ use native.Mathlib.Omega.{arith}
 use borrow.Author.Tests.{eq-eqb, ne_eqb, lt-ltb, le-ltb, eqb-false, ltb-false}
 use lib.Dec.{eqb, ltb}
 use lib.ListN.{length, replicate, length-replicate}
+use Rattle.std.specs.Prelude.{Ok, Err}
+use Rattle.refusals.specs.declared.Refusal.{Refusal}
+use Rattle.refusals.specs.Numbers.{number, mark}
 use Rattle.icepole.proofs.Numbers.{passed, neither}
 use Rattle.burst.specs.declared.Edition.{Edition}
 use Rattle.burst.specs.Editions.{Known, max_entries}
@@ -17,10 +20,10 @@ use Rattle.burst.specs.Fields.{entry_length}
 use Rattle.burst.specs.Parts.{seal_length}
 use Rattle.burst.specs.Layout.{max_picture}
 use Rattle.trace.specs.Plain.{Firing, pictures, used_by, total_of}
-use Rattle.sizing.specs.declared.CardLine.{CardLine}
 use Rattle.sizing.specs.Sizing.{planned_shot, sized_edition}
-use Rattle.sizing.specs.Cards.{full_length, card_number, card_as, card_answer}
+use Rattle.sizing.specs.Cards.{CardLine, full_length, card_number, capacity_as, card_as, card_answer}
 use Rattle.sizing.specs.Sums.{max_record}
+use Rattle.sizing.proofs.Numbers.{some}
 use Rattle.sizing.proofs.Plans.{planned}
 
 -- ---- the numbers, of n shots with pictures of q bytes
@@ -87,18 +90,16 @@ pub records-bound : (e : Edition) (n q : ℕ) → Known e → InRange e n q → 
 records-bound e n q known h = mul-le-mul {n₁ = n} {m₁ = q + seal_length} {n₂ = max_entries} {m₂ = max_record} (omega (arith, known, h)) (omega (arith, h))
 
 -- ---- the answer
-abbrev refused : ℕ → CardLine
-refused num = record { refusal = num; mark = 0; bursts = 0; left = 0 }
-
 module _ (e : Edition) (row : e ≡ sized_edition) (card n q : ℕ) where
   carded-by : card_as (card_number e n q) card (full_length e n q) ≡ card_answer card n q
   unfolding card_answer
   carded-by = ap (λ (x : Edition). card_as (card_number x n q) card (full_length x n q)) row
 
-  pub card-refused : (num : ℕ) → num ≡ card_number e n q → (num ≡ 0 → ⊥) → refused num ≡ card_answer card n q
-  card-refused num is h = sym (simp (ne_eqb num 0 h)) ∙ ap (λ (k : ℕ). card_as k card (full_length e n q)) is ∙ carded-by
+  pub card-refused : (x : Refusal) → number x ≡ card_number e n q → mark x ≡ 0 → capacity_as (Err x) ≡ card_answer card n q
+  card-refused x is m = sym (simp (some x, m)) ∙ ap (λ (k : ℕ). card_as k card (full_length e n q)) is ∙ carded-by
 
-  pub card-done : 0 ≡ card_number e n q → (each : ℕ) → each ≡ full_length e n q → card_as 0 card each ≡ card_answer card n q
+  pub card-done : 0 ≡ card_number e n q → (each : ℕ) → each ≡ full_length e n q
+      → let line = card_as 0 card each in capacity_as (Ok (record { bursts = line.bursts; left = line.left })) ≡ card_answer card n q
   card-done z each is = ap (card_as 0 card) is ∙ ap (λ (k : ℕ). card_as k card (full_length e n q)) z ∙ carded-by
 
 -- ---- what the two numbers are to a card cut into files of so many bytes

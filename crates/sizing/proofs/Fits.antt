@@ -23,8 +23,7 @@ use Rattle.trace.specs.Trace.{run_answers}
 use Rattle.trace.specs.Agreement.{Reached}
 use Rattle.trace.proofs.Shots.{Valid, valid-snoc, pictures-append, used-append, used-least}
 use Rattle.trace.proofs.Agreement.{with, agreement}
-use Rattle.sizing.specs.declared.Size.{Size}
-use Rattle.sizing.specs.Sizing.{lengths_of, sized_edition, too_long, size_number, size_answer}
+use Rattle.sizing.specs.Sizing.{Size, lengths_of, sized_edition, too_long, size_number, size_answer}
 use Rattle.sizing.specs.Plans.{planned_by, OnlyShots, Beginnable, carried_out, AllDone}
 use Rattle.sizing.proofs.Numbers.{size-0, sized}
 use Rattle.sizing.proofs.Plans.{valid-filled, valid-short, length-lengths}

@@ -6,17 +6,25 @@ use mathlib.Core.Path.{◌≡◌, refl, sym, ap, ◌∙◌}
 use Prim.Native.Nat.{ℕ, zero, suc, ◌+◌, ◌≤◌, ◌<◌}
 use native.Mathlib.Omega.{arith}
 use native.Mathlib.Numerals.{add-one}
-use borrow.Author.Tests.{lt-ltb, le-ltb, ltb-true, ltb-false}
-use lib.Dec.{ltb}
+use borrow.Author.Tests.{ne_eqb, lt-ltb, le-ltb, ltb-true, ltb-false}
+use lib.Dec.{eqb, ltb}
 use lib.ListN.{length, drop, get_or}
 use lib.Seq.{drop-cons}
+use Rattle.std.specs.List.{list_any}
+use Rattle.refusals.specs.declared.Refusal.{Refusal}
+use Rattle.refusals.specs.Numbers.{number}
+use Rattle.refusals.proofs.Laws.{positive}
 use Rattle.icepole.proofs.Numbers.{passed, neither}
 use Rattle.burst.specs.declared.Edition.{Edition}
 use Rattle.burst.specs.Layout.{max_picture}
 use Rattle.burst.proofs.Rules.{clash}
 use Rattle.sizing.specs.Sizing.{too_long, size_number}
 
--- ---- a turn of the search for a length that is too long
+-- ---- the search for a length that is too long, and a turn of it
+pub long-any : (ns : List ℕ) → list_any (λ n. ltb max_picture n) ns ≡ too_long ns
+long-any [] = refl
+long-any (n ∷ ns) = ap (λ b. ltb max_picture n || b) (long-any ns)
+
 module _ (ns : List ℕ) (i : ℕ) (h : i < length ns) where
   abbrev n : ℕ
   n = get_or ns i 0
@@ -24,16 +32,14 @@ module _ (ns : List ℕ) (i : ℕ) (h : i < length ns) where
   next : too_long (drop i ns) ≡ (ltb max_picture n || too_long (drop (i + 1) ns))
   next = ap too_long (drop-cons ns i 0 h) ∙ ap (λ (k : ℕ). ltb max_picture n || too_long (drop k ns)) (sym (add-one i))
 
-  pub long-here : max_picture < n → too_long (drop i ns) ≡ true
-  long-here g = next ∙ simp (lt-ltb max_picture n g)
-
-  pub long-later : n ≤ max_picture → too_long (drop i ns) ≡ too_long (drop (i + 1) ns)
-  long-later g = next ∙ simp (le-ltb max_picture n g)
-
   pub short-here : too_long (drop i ns) ≡ false → (n ≤ max_picture) × (too_long (drop (i + 1) ns) ≡ false)
   short-here g = let d = neither (ltb max_picture n) (too_long (drop (i + 1) ns)) (sym next ∙ g) in (ltb-false _ _ d.0, d.1)
 
 -- ---- the numbers
+-- a refusal's is not 0
+pub some : (x : Refusal) → eqb (number x) 0 ≡ false
+some x = ne_eqb (number x) 0 (λ i. let h = positive x in omega (arith, h, i))
+
 module _ (e : Edition) (ns : List ℕ) where
   pub size-9 : e.shots < length ns → 9 ≡ size_number e ns
   unfolding size_number

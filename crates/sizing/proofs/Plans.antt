@@ -6,10 +6,13 @@ use mathlib.Core.Path.{◌≡◌, refl, sym, ap, ap₂, subst, ◌∙◌}
 use Prim.Native.Nat.{ℕ, suc, ◌+◌, ◌*◌, ◌≤◌, ◌<◌}
 use native.Mathlib.Numerals.{add-one}
 use native.Mathlib.Omega.{arith}
-use borrow.Author.Tests.{eq-eqb, ne_eqb, eqb-true, eqb-false, le-ltb}
+use borrow.Author.Tests.{ne_eqb, eqb-true, eqb-false, le-ltb}
 use lib.Dec.{eqb}
 use lib.ListN.{length, drop, get_or, replicate, length-append, length-replicate, drop_of_length-le}
 use lib.Seq.{drop-cons}
+use Rattle.std.specs.Prelude.{Ok, Err}
+use Rattle.refusals.specs.declared.Refusal.{Refusal}
+use Rattle.refusals.specs.Numbers.{number, mark}
 use Rattle.bytes_le.specs.Bytes.{Bytes}
 use Rattle.padded_blocks.specs.PaddedBlocks.{calls_of}
 use Rattle.burst.specs.declared.Edition.{Edition}
@@ -24,16 +27,14 @@ use Rattle.trace.specs.Plain.{Firing, kept, gap, pictures, gaps, used_by, Plain,
 use Rattle.trace.specs.Seals.{record_seals, seals_blocks, burst_calls}
 use Rattle.trace.proofs.Shots.{Valid, length-index}
 use Rattle.trace.proofs.Seals.{burst-p12, burst-p6, burst-blocks}
-use Rattle.sizing.specs.declared.Size.{Size}
+use Rattle.sizing.specs.declared.Estimate.{Estimate}
 use Rattle.sizing.specs.declared.Sums.{Sums}
-use Rattle.sizing.specs.Sizing.{lengths_of, planned_shot, planned_burst, sized_edition, too_long, size_number, sized_as, size_answer}
+use Rattle.sizing.specs.Sizing.{lengths_of, planned_shot, planned_burst, sized_edition, too_long, size_number, estimate_as, sized_as, size_answer}
+use Rattle.sizing.proofs.Numbers.{some}
 use Rattle.sizing.specs.Sums.{record_blocks, first_sums, with_shot, with_shots, After}
 
 -- ---- one shot
 module _ (e : Edition) (s : Sums) (n : ℕ) where
-  pub shot-dropped : n ≡ 0 → s ≡ with_shot e s n
-  shot-dropped h = sym (simp (eq-eqb n 0 h))
-
   abbrev with : ℕ → Sums
   with blocks = record { used = used_after s.used n; kept = record { 0 = s.kept.0 + 1 }; blocks = s.blocks + blocks }
 
@@ -163,26 +164,26 @@ filled-planned (n ∷ ns) =
     (λ z. (let l = length-replicate {A = ℕ} n 0 in omega arith, filled-planned ns))
 
 -- ---- the answer
-abbrev pub answer : (num file p12 p6 : ℕ) → Size
-answer num file p12 p6 = record { refusal = num; mark = 0; file_length = file; p12 = p12; p6 = p6 }
+abbrev pub estimate : (file p12 p6 : ℕ) → Estimate
+estimate file p12 p6 = record { file_length = file; p12 = p12; p6 = p6 }
 
 module _ (e : Edition) (row : e ≡ sized_edition) (ns : List ℕ) where
   sized-by : sized_as e (size_number e ns) (planned_burst ns) ≡ size_answer ns
   unfolding size_answer
   sized-by = ap (λ (x : Edition). sized_as x (size_number x ns) (planned_burst ns)) row
 
-  pub size-refused : (num : ℕ) → num ≡ size_number e ns → (num ≡ 0 → ⊥) → answer num 0 0 0 ≡ size_answer ns
-  size-refused num q h =
-      sym (simp (ne_eqb num 0 h)) ∙ ap (λ (n : ℕ). sized_as e n (planned_burst ns)) q ∙ sized-by
+  pub size-refused : (x : Refusal) → number x ≡ size_number e ns → mark x ≡ 0 → estimate_as (Err x) ≡ size_answer ns
+  size-refused x q m =
+      sym (simp (some x, m)) ∙ ap (λ (n : ℕ). sized_as e n (planned_burst ns)) q ∙ sized-by
 
   pub size-done : Known e → 0 ≡ size_number e ns → (s : Sums) → s ≡ with_shots e (first_sums e) ns → (k : ℕ)
       → ((mark ad m : Bytes) → length ad ≡ e.header + entry_length * s.kept.0 → length m ≡ 0 → k ≡ part_blocks e mark ad m)
-      → answer 0 (s.used + entry_length * s.kept.0 + seal_length) (s.kept.0 + 1) (s.blocks + k) ≡ size_answer ns
+      → estimate_as (Ok (estimate (s.used + entry_length * s.kept.0 + seal_length) (s.kept.0 + 1) (s.blocks + k))) ≡ size_answer ns
   size-done known q s is k closing =
       let p = planned_burst ns in
       let f = filled-planned ns in
       let t = is ∙ ap (with_shots e (first_sums e)) (sym (lengths-planned ns)) in
-      ap (λ (n : ℕ). answer 0 n (s.kept.0 + 1) (s.blocks + k)) (total-file e known p f s t)
-      ∙ ap₂ (answer 0 (total_of e p)) (total-p12 e known p f s t) (total-p6 e known p f s t k closing)
+      ap (λ (n : ℕ). estimate_as (Ok (estimate n (s.kept.0 + 1) (s.blocks + k)))) (total-file e known p f s t)
+      ∙ ap₂ (λ (m n : ℕ). estimate_as (Ok (estimate (total_of e p) m n))) (total-p12 e known p f s t) (total-p6 e known p f s t k closing)
       ∙ ap (λ (n : ℕ). sized_as e n p) q
       ∙ sized-by

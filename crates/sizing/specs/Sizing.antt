@@ -2,7 +2,9 @@
 -- calls, without sealing." The three numbers are those of a plain burst with shots of these lengths, in the edition that is written. The burst here has zeros for
 -- key, pictures, stamps and site mark; `SizeUp` of the claims says that every burst with shots of these lengths has the same.
 -- Assumes nothing.
-use Rattle.std.specs.Prelude.{Bool, true, false, cond, ◌||◌, List, [], ◌∷◌, map, ℕ, eqb, ltb, length, replicate}
+use Rattle.std.specs.Prelude.{Bool, true, false, cond, ◌||◌, List, [], ◌∷◌, map, ℕ, eqb, ltb, length, replicate, Result}
+use Rattle.refusals.specs.declared.Refusal.{Refusal}
+use Rattle.refusals.specs.Numbers.{number_of, mark_of, value_or}
 use Rattle.icepole.specs.Answers.{refusal, ◌when◌, given}
 use Rattle.padded_blocks.specs.PaddedBlocks.{calls_of}
 use Rattle.burst.specs.declared.Edition.{Edition}
@@ -11,7 +13,7 @@ use Rattle.burst.specs.Parts.{key_length, no_mark}
 use Rattle.burst.specs.Layout.{identified, max_picture}
 use Rattle.trace.specs.Plain.{Firing, kept, gap, Plain, total_of}
 use Rattle.trace.specs.Seals.{burst_calls}
-use Rattle.sizing.specs.declared.Size.{Size}
+use Rattle.sizing.specs.declared.Estimate.{Estimate}
 
 -- ---- the length of each shot, 0 of a gap
 abbrev pub lengths_of : List Firing → List ℕ
@@ -38,7 +40,24 @@ too_long (n ∷ ns) = ltb max_picture n || too_long ns
 unfoldable pub size_number : Edition → List ℕ → ℕ
 size_number e lengths = refusal ((9 when ltb e.shots (length lengths)) ∷ (10 when too_long lengths) ∷ [])
 
--- ---- the answer: the file's length, and how often the permutation is called with twelve and with six rounds
+-- ---- the answer: a refusal number, 0 when done, its mark, the file's length, and how often the permutation is called with twelve and with six rounds
+pub record Size : Type 0 where
+  pub refusal : ℕ
+  pub mark : ℕ
+  pub file_length : ℕ
+  pub p12 : ℕ
+  pub p6 : ℕ
+
+-- what the call returns, as such an answer
+abbrev pub estimate_as : Result Estimate Refusal → Size
+estimate_as r = record {
+  refusal = number_of r;
+  mark = mark_of r;
+  file_length = value_or (λ x. x.file_length) 0 r;
+  p12 = value_or (λ x. x.p12) 0 r;
+  p6 = value_or (λ x. x.p6) 0 r;
+}
+
 abbrev pub sized_as : Edition → ℕ → Plain → Size
 sized_as e num p = record {
   refusal = num;

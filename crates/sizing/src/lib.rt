@@ -2,24 +2,21 @@
 // carton (02, N2): how many full bursts a card holds.
 #![tactic(auto)]
 
-ghost use Rattle.std.specs.Prelude.{◌≡◌, false, ◌+◌, ◌≤◌, length};
+ghost use Rattle.std.specs.Prelude.{◌≡◌, false, ◌+◌, ◌≤◌, ltb, length};
+ghost use Rattle.refusals.specs.Numbers.{number_of, mark_of};
 ghost use Rattle.burst.specs.Editions.{Known, max_entries};
 ghost use Rattle.burst.specs.Layout.{max_picture};
-ghost use Rattle.sizing.specs.Sizing.{too_long, size_number, size_answer};
-ghost use Rattle.sizing.specs.Cards.{full_length, card_number, card_answer};
+ghost use Rattle.sizing.specs.Sizing.{too_long, size_number, estimate_as, size_answer};
+ghost use Rattle.sizing.specs.Cards.{full_length, card_number, capacity_as, card_answer};
 ghost use Rattle.sizing.specs.Sums.{first_sums, with_shot, with_shots, max_record, max_blocks, After};
 
-use burst::{BURST_FULL, ENTRY_LENGTH, Edition, MAX_PICTURE, PICTURE_LENGTH, Place, SEAL_LENGTH};
+use burst::{ENTRY_LENGTH, Edition, MAX_PICTURE, Place, SEAL_LENGTH};
 use icepole::KEY_BYTES;
+use refusals::Refusal;
 
-// The refusal number of the card line (02, N2): a full burst has 1 to as many shots as its edition takes.
-pub const SHOT_COUNT: u32 = 16;
-
-// What sizing up answers: a refusal number with its mark, or the file's length and how often the permutation runs with twelve and with six rounds.
+// What sizing up answers: the file's length, and how often the permutation runs with twelve and with six rounds.
 #[derive(Clone, Copy)]
-pub struct Size {
-    pub refusal: u32,
-    pub mark: u32,
+pub struct Estimate {
     pub file_length: u64,
     pub p12: u64,
     pub p6: u64,
@@ -33,21 +30,25 @@ struct Sums {
     blocks: u64,
 }
 
+// Whether a picture of n bytes is longer than any that can be kept.
+fn too_long(n: u64) -> bool
+    ensures { result ≡ ltb max_picture n }
+{
+    n > MAX_PICTURE as u64
+}
+
 // The whole list is judged for 9 before a length is looked at.
-fn size_number(e: Edition, lengths: &[u64]) -> u32
-    ensures { result ≡ size_number e lengths.now }
+fn may_size_up(e: Edition, lengths: &[u64]) -> Result<(), Refusal>
+    ensures number { number_of result ≡ size_number e lengths.now }
+    ensures mark { mark_of result ≡ 0 }
 {
     if lengths.len() > e.shots as usize {
-        return BURST_FULL;
+        return Err(Refusal::BurstFull);
     }
-    let mut i: usize = 0;
-    while i < lengths.len() {
-        if lengths[i] > MAX_PICTURE as u64 {
-            return PICTURE_LENGTH;
-        }
-        i += 1;
+    if lengths.iter().any(|n| too_long(*n)) {
+        return Err(Refusal::PictureLength);
     }
-    0
+    Ok(())
 }
 
 // The sums after one more shot, whose picture has n bytes, or none where it is dropped.
@@ -76,67 +77,52 @@ fn sums_of(e: Edition, lengths: &[u64]) -> Sums
         kept: Place(0),
         blocks: 0,
     };
-    let mut i: usize = 0;
-    while i < lengths.len() {
-        let t = with_shot(e, s, lengths[i]);
-        s = t;
-        i += 1;
+    for n in lengths {
+        s = with_shot(e, s, *n);
     }
     s
 }
 
-pub fn size_up(lengths: &[u64]) -> Size
-    ensures { result ≡ size_answer lengths.now }
+pub fn size_up(lengths: &[u64]) -> Result<Estimate, Refusal>
+    ensures { estimate_as result ≡ size_answer lengths.now }
 {
     let e = burst::edition_written(KEY_BYTES);
-    let number = size_number(e, lengths);
-    if number != 0 {
-        return Size {
-            refusal: number,
-            mark: 0,
-            file_length: 0,
-            p12: 0,
-            p6: 0,
-        };
-    }
+    may_size_up(e, lengths)?;
     let s = sums_of(e, lengths);
     let index = burst::index_length(s.kept);
     let closing = burst::part_blocks(e, e.header as usize + index, 0);
-    Size {
-        refusal: 0,
-        mark: 0,
+    Ok(Estimate {
         file_length: s.used + index as u64 + SEAL_LENGTH as u64,
         p12: s.kept.0 as u64 + 1,
         p6: s.blocks + closing as u64,
-    }
+    })
 }
 
-// What the card line answers: a refusal number with its mark, or how many full bursts the card holds and the bytes left.
+// What the card line answers: how many full bursts the card holds, and the bytes left.
 #[derive(Clone, Copy)]
-pub struct CardLine {
-    pub refusal: u32,
-    pub mark: u32,
+pub struct Capacity {
     pub bursts: u64,
     pub left: u64,
 }
 
 // Both are judged as they come, at 64 bits.
-fn card_number(e: Edition, shots: u64, picture: u64) -> u32
-    ensures { result ≡ card_number e shots picture }
+fn may_print(e: Edition, shots: u64, picture: u64) -> Result<(), Refusal>
+    ensures number { number_of result ≡ card_number e shots picture }
+    ensures mark { mark_of result ≡ 0 }
 {
     if shots == 0 {
-        return SHOT_COUNT;
+        return Err(Refusal::ShotCount);
     }
     if shots > e.shots as u64 {
-        return SHOT_COUNT;
+        return Err(Refusal::ShotCount);
     }
     if picture < 1 {
-        return PICTURE_LENGTH;
+        return Err(Refusal::PictureLength);
     }
-    if picture > MAX_PICTURE as u64 {
-        return PICTURE_LENGTH;
+    if too_long(picture) {
+        return Err(Refusal::PictureLength);
     }
-    0
+    Ok(())
 }
 
 // Bytes of the file of a full burst: header, records, index and closing seal.
@@ -149,24 +135,14 @@ fn full_length(e: Edition, shots: u64, picture: u64) -> u64
     e.header as u64 + records + index as u64 + SEAL_LENGTH as u64
 }
 
-pub fn card_line(card: u64, shots: u64, picture: u64) -> CardLine
-    ensures { result ≡ card_answer card shots picture }
+pub fn card_line(card: u64, shots: u64, picture: u64) -> Result<Capacity, Refusal>
+    ensures { capacity_as result ≡ card_answer card shots picture }
 {
     let e = burst::edition_written(KEY_BYTES);
-    let number = card_number(e, shots, picture);
-    if number != 0 {
-        return CardLine {
-            refusal: number,
-            mark: 0,
-            bursts: 0,
-            left: 0,
-        };
-    }
+    may_print(e, shots, picture)?;
     let each = full_length(e, shots, picture);
-    CardLine {
-        refusal: 0,
-        mark: 0,
+    Ok(Capacity {
         bursts: card / each,
         left: card % each,
-    }
+    })
 }

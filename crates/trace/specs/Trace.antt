@@ -4,10 +4,8 @@
 use Rattle.std.specs.Prelude.{List, [], ◌∷◌}
 use Rattle.bytes_le.specs.Bytes.{Bytes}
 use Rattle.burst.specs.declared.Recorder.{Recorder}
-use Rattle.burst.specs.Recorder.{ShotAnswer}
-use Rattle.burst.specs.Recorder.{Closed}
 use Rattle.trace.specs.Plain.{Call, keep_shot, drop_shot, close_burst, CallList, Answer}
-use Rattle.burst.specs.Recorder.{begin_answer, begin_buffer, keep_answer, keep_buffer, drop_answer, close_answer, close_buffer}
+use Rattle.burst.specs.Recorder.{ShotAnswer, Closed, begin_answer, begin_buffer, keep_answer, keep_buffer, drop_answer, close_answer, close_buffer}
 
 -- ---- one call
 unfoldable pub next_recorder : Recorder → Bytes → Call → Recorder

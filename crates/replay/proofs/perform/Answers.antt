@@ -1,35 +1,42 @@
 -- `replay::perform` meets its contract.
 -- Assumes nothing.
-use mathlib.Core.Path.{sym, ◌∙◌}
-use native.Mathlib.Omega.{arith}
-use Rattle.replay.proofs.Scripts.{end-here, drop_here, close-here, other-here}
+use mathlib.Core.Path.{refl, ap, ◌∙◌}
+use Rattle.burst.specs.Recorder.{ShotAnswer, Closed}
+use Rattle.trace.specs.Trace.{shot_told, total_told, answer_to, next_recorder, next_buffer}
 use Rattle.replay.proofs.perform.Goals as goal
 
-pub returns-then-position-script : goal.returns-then-position-script
-returns-then-position-script c =
-    let a = c.args in
-    let p = end-here a.r a.buffer.now a.script.now a.position (omega arith) in
-    (c.stopped.ensures ∙ p.0, p.1)
+pub returns-in-Drop-clause-answer : goal.returns-in-Drop-clause-answer
+unfolding answer_to
+returns-in-Drop-clause-answer c = rw c.in-Drop.is (c.with_number.ensures.0 ∙ ap shot_told c.drop_shot.ensures)
 
-pub returns-then-kind-eq-DROP : goal.returns-then-kind-eq-DROP
-returns-then-kind-eq-DROP c =
-    let a = c.args in
-    drop_here a.r a.buffer.now a.script.now a.position (omega (arith, c.if-position-script)) (sym c.load_le-kind.ensures.0 ∙ c.if-kind-eq-DROP.true) _ c.drop_shot-k.ensures
+pub returns-in-Drop-clause-recorder : goal.returns-in-Drop-clause-recorder
+unfolding next_recorder
+returns-in-Drop-clause-recorder c = rw c.in-Drop.is (c.with_number.ensures.1 ∙ ap (λ (a : ShotAnswer). a.recorder) c.drop_shot.ensures)
 
-pub returns-then-kind-eq-CLOSE : goal.returns-then-kind-eq-CLOSE
-returns-then-kind-eq-CLOSE c =
-    let a = c.args in
-    close-here a.r a.buffer.now a.script.now a.position (omega (arith, c.if-position-script)) (sym c.load_le-kind.ensures.0 ∙ c.if-kind-eq-CLOSE.true) _ _ c.close-k.ensures.0
-    c.close-k.ensures.1
+pub returns-in-Drop-clause-output : goal.returns-in-Drop-clause-output
+unfolding next_buffer
+returns-in-Drop-clause-output c = rw c.in-Drop.is (refl)
 
-pub returns-then-kind-ne-KEEP : goal.returns-then-kind-ne-KEEP
-returns-then-kind-ne-KEEP c =
-    let a = c.args in
-    let e = c.load_le-kind.ensures.0 in
-    let p = other-here a.r a.buffer.now a.script.now a.position (omega (arith, c.if-position-script)) (λ z. omega (arith, e, z, c.if-kind-eq-DROP))
-    (λ z. omega (arith, e, z, c.if-kind-eq-CLOSE)) (λ z. omega (arith, e, z, c.if-kind-ne-KEEP)) in
-    (c.stopped-then-kind-ne-KEEP.ensures ∙ p.0, p.1)
+pub returns-in-Close-clause-answer : goal.returns-in-Close-clause-answer
+unfolding answer_to
+returns-in-Close-clause-answer c = rw c.in-Close.is (ap total_told c.close.ensures.answer)
 
-pub keep_step-requires : goal.keep_step-requires
-keep_step-requires c =
-    let e = c.load_le-kind.ensures.0 in (omega (arith, c.if-position-script), omega (arith, e, c.if-kind-ne-KEEP))
+pub returns-in-Close-clause-recorder : goal.returns-in-Close-clause-recorder
+unfolding next_recorder
+returns-in-Close-clause-recorder c = rw c.in-Close.is (ap (λ (a : Closed). a.recorder) c.close.ensures.answer)
+
+pub returns-in-Close-clause-output : goal.returns-in-Close-clause-output
+unfolding next_buffer
+returns-in-Close-clause-output c = rw c.in-Close.is (c.close.ensures.output)
+
+pub returns-in-Keep-clause-answer : goal.returns-in-Keep-clause-answer
+unfolding answer_to
+returns-in-Keep-clause-answer c = rw c.in-Keep.is (c.with_number-in-Keep.ensures.0 ∙ ap shot_told c.keep.ensures.answer)
+
+pub returns-in-Keep-clause-recorder : goal.returns-in-Keep-clause-recorder
+unfolding next_recorder
+returns-in-Keep-clause-recorder c = rw c.in-Keep.is (c.with_number-in-Keep.ensures.1 ∙ ap (λ (a : ShotAnswer). a.recorder) c.keep.ensures.answer)
+
+pub returns-in-Keep-clause-output : goal.returns-in-Keep-clause-output
+unfolding next_buffer
+returns-in-Keep-clause-output c = rw c.in-Keep.is (c.keep.ensures.output)

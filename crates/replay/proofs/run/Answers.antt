@@ -1,75 +1,53 @@
 -- `replay::run` meets its contract. The loop's invariant: the calls that are left, performed from here, leave what all calls leave from the start.
 -- Assumes nothing.
-use mathlib.Core.Path.{◌≡◌, refl, ap, ◌∙◌}
-use Prim.Native.Nat.{ℕ, suc, ◌+◌, ◌-◌}
+use mathlib.Core.Path.{◌≡◌, sym, ap, ap₂, subst, ◌∙◌}
+use mathlib.Core.List.{◌++◌}
+use Prim.Native.Nat.{ℕ, suc, ◌+◌, ◌-◌, ◌*◌}
 use native.Mathlib.Omega.{arith}
-use borrow.Author.Tests.{not-true, not-false}
-use lib.ListN.{drop, length-drop}
-use Rattle.replay.specs.declared.Step.{Step}
-use Rattle.replay.specs.Replay.{script_calls, script_rest, step_of, step_buffer}
-use Rattle.replay.proofs.Scripts.{stops, goes, first_fits, left-none, left-some, rest-none, rest_some}
-use Rattle.replay.proofs.Turns.{all_left, none_left, turned}
+use lib.ListN.{length, drop, length-drop}
+use lib.Seq.{take_all}
+use Rattle.bytes_le.specs.Bytes.{Bytes, put_bytes, le}
+use Rattle.trace.specs.Plain.{Answer}
+use Rattle.replay.specs.Replay.{script_calls, script_rest}
+use Rattle.replay.proofs.Scripts.{first_fits, left-none, value-is}
+use Rattle.replay.proofs.Turns.{Left, none_left, turned}
 use Rattle.replay.proofs.run.Goals as goal
 
-pub loop-i-init : goal.loop-i-init
-loop-i-init c = (omega arith, omega arith, refl, refl, all_left _ _ _ _ _)
-
-pub shape_of-buffer-then-not-s : goal.shape_of-buffer-then-not-s
-shape_of-buffer-then-not-s c =
-    c.perform-s.auto.buffer ∙ c.loop-i.invariant.3
-
-pub shape_of-answers-then-not-s : goal.shape_of-answers-then-not-s
-shape_of-answers-then-not-s c = c.loop-i.invariant.2
-
-pub returns-then-not-s : goal.returns-then-not-s
-returns-then-not-s c =
+pub returns-in_default : goal.returns-in_default
+returns-in_default c =
     let l = c.loop-i in
-    let a = c.args in
-    let f = stops l.r l.buffer l.position a.script.now c.perform-s.result c.perform-s.ensures.0 (not-true _ c.if-not-s.true) in
-    let e : a.room - l.i ≡ suc (a.room - l.i - 1) = omega arith in
-    let w = none_left a.script.now a.room _ _ _ l.r l.buffer l.answers l.position l.i
-    (ap (λ (n : ℕ). script_calls n (drop l.position a.script.now)) e ∙ left-none (a.room - l.i - 1) l.position a.script.now f)
-    (ap (λ (n : ℕ). script_rest n (drop l.position a.script.now)) e ∙ rest-none (a.room - l.i - 1) l.position a.script.now f) l.invariant.1 _ c.ended.ensures
-    l.invariant.4 in
-    (w.0, c.perform-s.ensures.1 ∙ ap (step_buffer l.r l.buffer) f ∙ w.1, w.2)
+    let e : c.args.room - l.i ≡ suc (c.args.room - l.i - 1) = omega (arith, c.loop-i-test) in
+    let g = left-none (c.args.room - l.i - 1) l.rest.now (sym c.in_default.ensures) in
+    none_left c.args.script.now c.args.room _ _ _ l.r l.buffer l.answers l.rest.now l.i l.invariant.left
+    (ap (λ (n : ℕ). script_calls n l.rest.now) e ∙ g.0, ap (λ (n : ℕ). script_rest n l.rest.now) e ∙ g.1) _ c.ended.ensures
 
-pub store_le-next-requires : goal.store_le-next-requires
-store_le-next-requires c =
-    omega (arith, c.loop-i, c.requires, c.loop-i-test)
+pub slice_bounds-rest-count : goal.slice_bounds-rest-count
+slice_bounds-rest-count c = first_fits c.loop-i.rest.now _ (sym c.in-Some.ensures)
 
-pub store_le-requires : goal.store_le-requires
-store_le-requires c =
-    let k = c.store_le-next.auto.out in
-    let e = c.store_le-next.ensures.0 in
-    omega (arith, k, e, c.loop-i, c.requires, c.loop-i-test)
+pub slice_bounds-rest-start : goal.slice_bounds-rest-start
+slice_bounds-rest-start c = let f = first_fits c.loop-i.rest.now _ (sym c.in-Some.ensures) in omega (arith, f)
 
 pub loop-i-preserved : goal.loop-i-preserved
 loop-i-preserved c =
     let l = c.loop-i in
     let a = c.args in
-    let st = c.perform-s.result in
-    let g = goes l.r l.buffer l.position a.script.now c.perform-s.result c.perform-s.ensures.0 (not-false _ c.if-not-s.false) in
-    let x = g.0 in
-    let m = first_fits (drop l.position a.script.now) x g.1 in
-    let d = length-drop l.position a.script.now in
-    let is = c.perform-s.ensures.0 ∙ ap (step_of l.r l.buffer l.position) g.1 in
-    let e : a.room - l.i ≡ suc (a.room - (l.i + 1)) = omega (arith, c.loop-i-test) in
-    let en = ap (λ (y : Step). y.next) is in (
-      omega (arith, c.loop-i-test),
-      omega (arith, en, m, d, l),
-      c.store_le.auto.out ∙ c.store_le-next.auto.out ∙ l.invariant.2,
-      c.perform-s.auto.buffer ∙ l.invariant.3,
-      turned a.script.now a.room _ _ _ l.r l.buffer l.answers l.position l.i x st
-          (ap (λ (n : ℕ). script_calls n (drop l.position a.script.now)) e ∙ left-some (a.room - (l.i + 1)) l.position a.script.now x g.1)
-          (ap (λ (n : ℕ). script_rest n (drop l.position a.script.now)) e ∙ rest_some (a.room - (l.i + 1)) l.position a.script.now x g.1) is _ _ _ _
-          (c.perform-s.ensures.1 ∙ ap (step_buffer l.r l.buffer) g.1) c.store_le-next.ensures.0 c.store_le-next.ensures.1 c.store_le.ensures.1
-          (omega (arith, c.requires, l)) c.loop-i-test.true l.invariant.4,
-    )
+    let k = c.perform-k.ensures in
+    let s = l.rest.now in
+    let n = c.number_of-number.ensures ∙ ap (λ (y : Answer). y.number) k.answer in
+    let v = c.unwrap_or-value.ensures ∙ value-is c.perform-k.result.answer ∙ ap (λ (y : Answer). y.value) k.answer in
+    let w = turned a.script.now a.room _ _ _ l.r l.buffer l.answers s l.i l.invariant.left (omega (arith, c.requires, l.invariant.answers)) c.loop-i-test.true _ (sym c.in-Some.ensures) _ _ _
+    k.recorder k.output (c.put_answer.ensures ∙ ap₂ (λ (num value : ℕ). put_bytes l.answers (8 * l.i) (le 4 num ++ le 4 value)) n v) in
+    record {
+      answers = c.put_answer.auto.answers ∙ l.invariant.answers;
+      buffer = c.perform-k.auto.buffer ∙ l.invariant.buffer;
+      left = subst (λ (t : Bytes). Left a.script.now a.room a.start a.buffer.now a.answers.now c.perform-k.result.recorder c.perform-k.new.buffer c.put_answer.new.answers t (l.i + 1))
+          (sym (take_all (length s - c.in-Some.taken) (drop c.in-Some.taken s) (simp length-drop (omega arith)))) w;
+    }
 
 pub returns : goal.returns
 returns c =
     let l = c.loop-i in
-    let a = c.args in
-    let e : a.room - l.i ≡ 0 = omega arith in
-    none_left a.script.now a.room _ _ _ l.r l.buffer l.answers l.position l.i (ap (λ (n : ℕ). script_calls n (drop l.position a.script.now)) e)
-    (ap (λ (n : ℕ). script_rest n (drop l.position a.script.now)) e) l.invariant.1 _ c.ended-2.ensures l.invariant.4
+    let e : c.args.room - l.i ≡ 0 = omega (arith, c.loop-i-test) in
+    let i : l.i ≡ c.args.room = omega (arith, l.auto, c.loop-i-test) in
+    none_left c.args.script.now c.args.room _ _ _ l.r l.buffer l.answers l.rest.now l.i l.invariant.left
+    (ap (λ (n : ℕ). script_calls n l.rest.now) e, ap (λ (n : ℕ). script_rest n l.rest.now) e) _ (rw i c.ended-2.ensures)

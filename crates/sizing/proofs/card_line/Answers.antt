@@ -1,25 +1,15 @@
 -- `sizing::card_line` meets its contract.
 -- Assumes nothing.
-use mathlib.Core.Path.{◌≡◌, sym, ◌∙◌}
-use native.Mathlib.Omega.{arith}
+use mathlib.Core.Path.{ap, ◌∙◌}
+use Rattle.refusals.proofs.Laws.{passed-on}
+use Rattle.sizing.specs.Cards.{capacity_as}
 use Rattle.sizing.proofs.Cards.{card-refused, card-done}
 use Rattle.sizing.proofs.card_line.Goals as goal
 
-pub returns-then-number-ne0 : goal.returns-then-number-ne0
-returns-then-number-ne0 c =
-    let w = c.edition_written-e.ensures in
-    let a = c.args in
-    card-refused _ w.0 a.card _ _ _ c.card_number-number.ensures c.if-number-ne0.true
-
-pub full_length-each-requires : goal.full_length-each-requires
-full_length-each-requires c =
-    let w = c.edition_written-e.ensures in
-    let z : c.card_number-number.result ≡ 0 = omega arith in
-    (w.1, sym c.card_number-number.ensures ∙ z)
+pub returns-in_err-may_print : goal.returns-in_err-may_print
+returns-in_err-may_print c =
+    let m = c.in_err-may_print.ensures in
+    ap capacity_as (passed-on _ _ c.from_residual.ensures.1) ∙ card-refused _ c.edition_written-e.ensures.0 c.args.card _ _ _ m.number m.mark
 
 pub returns : goal.returns
-returns c =
-    let w = c.edition_written-e.ensures in
-    let a = c.args in
-    let z : c.card_number-number.result ≡ 0 = omega (arith, c.if-number-ne0) in
-    card-done _ w.0 a.card _ _ (sym z ∙ c.card_number-number.ensures) _ c.full_length-each.ensures.0
+returns c = card-done _ c.edition_written-e.ensures.0 c.args.card _ _ c.in_ok-may_print.ensures.number _ c.full_length-each.ensures.0
