@@ -1,7 +1,8 @@
 // The reader of bursts (01, "Reader"; 02, N1): check, fetch by place, and the sealed record of a place.
 #![tactic(auto)]
 
-ghost use Rattle.std.specs.Prelude.{◌≡◌, true, ◌+◌, ◌*◌, ◌≤◌, ◌<◌, [], ◌∷◌, length};
+ghost use Rattle.std.specs.Prelude.{◌≡◌, ◌==◌, true, ◌+◌, ◌*◌, ◌≤◌, ◌<◌, [], ◌∷◌, length};
+ghost use Rattle.std.specs.List.{list_all};
 ghost use Rattle.bytes_le.specs.Bytes.{put_bytes};
 ghost use Rattle.burst.specs.Fields.{fields_length, entry_length};
 ghost use Rattle.burst.specs.Editions.{max_entries, max_header, Known};
@@ -153,20 +154,20 @@ fn name_in(f: &[u8]) -> Name
     }
 }
 
+fn all_zero(bytes: &[u8]) -> bool
+    ensures { result ≡ list_all (λ x. x == 0) bytes.now }
+{
+    bytes.iter().all(|x| *x == 0)
+}
+
 // Whether the header's bytes behind the camera number, or where there is none behind the nine fields, are zero.
 fn zeros_ok(e: Edition, f: &[u8]) -> bool
     requires { Known e × (e.header ≤ length f.now) }
     ensures { result ≡ all_zero (zeros_of e f.now) }
 {
-    let header = e.header as usize;
-    let mut i = CAMERA_AT + e.camera as usize;
-    while i < header {
-        if f[i] != 0 {
-            return false;
-        }
-        i += 1;
-    }
-    true
+    let start = CAMERA_AT + e.camera as usize;
+    let end = e.header as usize;
+    all_zero(&f[start..end])
 }
 
 // The rules of the header's bytes behind its nine fields.
