@@ -3,7 +3,7 @@
 use mathlib.Core.Bool.{true, false}
 use mathlib.Core.List.{◌++◌}
 use mathlib.Core.Path.{◌≡◌, refl, sym, ap, ◌∙◌}
-use Prim.Native.Nat.{ℕ, ◌+◌, ◌-◌, ◌*◌, ◌≤◌}
+use Prim.Native.Nat.{ℕ, ◌+◌, ◌-◌, ◌*◌, ◌≤◌, ◌<◌}
 use native.Mathlib.Omega.{arith}
 use lib.ListN.{length, take, drop, length-drop}
 use lib.Seq.{length-take-le}
@@ -19,11 +19,12 @@ use Rattle.burst.specs.declared.Entry.{Entry}
 use Rattle.burst.specs.declared.Name.{Name}
 use Rattle.burst.specs.Fields.{entry_length}
 use Rattle.burst.specs.Parts.{seal_length, part_answer, part_output, part_refusal}
+use Rattle.burst.specs.Layout.{max_picture}
 use Rattle.burst.proofs.Parts.{answer-stands, answer-differs, answer-mark, part-output}
 use Rattle.reader.specs.declared.Header.{Header}
-use Rattle.reader.specs.Front.{edition_in, name_in, header_in, kept_in, index_offset_in, entry_at}
+use Rattle.reader.specs.Front.{edition_in, name_in, header_in, kept_in, index_offset_in, position_of, entry_at}
 use Rattle.reader.specs.Reader.{Part, closing_part, record_part, sealed_in, agrees, mark_in, body_in, answer_in}
-use Rattle.reader.proofs.Rules.{Front}
+use Rattle.reader.proofs.Rules.{Front, in-range-at}
 
 -- ---- what the answer to verifying a part tells of it
 module _ (key f : Bytes) (p : Part) where
@@ -88,6 +89,22 @@ lent f position x h g =
       entry_length_lem = ap length e₁ ∙ length-take-le entry_length (drop position f) (omega (arith, d₁, h));
       sealed_length = ap length e₂ ∙ length-take-le (x.length + seal_length) (drop x.offset f) (omega (arith, d₂, g));
     }
+
+-- ---- the entry of a place, as it was read
+pub record Placed (f : Bytes) (position : ℕ) (x : Entry) : Type 0 where
+  pub before-end : position + entry_length ≤ length f
+  pub within : x.offset + (x.length + seal_length) ≤ length f
+  pub most : x.length ≤ max_picture
+  pub slices : Lent f position x
+
+pub placed : (f : Bytes) (place position : ℕ) (x : Entry) → Front f → place < kept_in f → position ≡ position_of f place → x ≡ entry_at f position → Placed f position x
+placed f place position x w h e is =
+    let g = in-range-at f position place w h e in
+    let n = ap (λ (y : Entry). y.length) is in
+    let o = ap (λ (y : Entry). y.offset) is in
+    let b : position + entry_length ≤ length f = omega (arith, w, h, e) in
+    let r : x.offset + (x.length + seal_length) ≤ length f = omega (arith, w, g, n, o) in
+    record { before-end = b; within = r; most = omega (arith, g, n); slices = lent f position x b r }
 
 -- ---- the record of the entry x
 module _ (key f : Bytes) (e : Edition) (row : e ≡ edition_in f) (name : Name) (named : name ≡ name_in f) (position : ℕ) (x : Entry) (is : x ≡ entry_at f position)

@@ -9,7 +9,7 @@ ghost use Rattle.burst.specs.Editions.{max_entries, max_header, Known};
 ghost use Rattle.burst.specs.Parts.{seal_length, key_length};
 ghost use Rattle.burst.specs.Layout.{max_picture};
 ghost use Rattle.burst.specs.Index.{index_rules};
-ghost use Rattle.reader.specs.Front.{header_in, kept_in, index_offset_in, entry_at, entries_at, edition_in, camera_of, name_in, all_zero, zeros_of, rest_rules, front_rules};
+ghost use Rattle.reader.specs.Front.{header_in, kept_in, index_offset_in, position_of, entry_at, entries_at, edition_in, camera_of, name_in, all_zero, zeros_of, rest_rules, front_rules};
 ghost use Rattle.icepole.specs.Answers.{opened_as};
 ghost use Rattle.reader.specs.Reader.{closing_part, record_part, record_parts, agrees, answer_in, mark_in, body_in, verdict_on, fetched_as};
 ghost use Rattle.reader.specs.Reader.{summary_as, position_as, picture_as, check_mark, check_answer, locate_answer, record_refusal, record_offset, record_bytes_in, fetch_answer, fetch_output};
@@ -224,72 +224,94 @@ pub fn front_ok(f: &[u8]) -> bool
     index_ok(f, e, h.kept, h.index, h.taken)
 }
 
-// Verifies the record whose entry stands at a position of the file.
-fn verify_record(
-    key: &[u8],
-    f: &[u8],
-    e: Edition,
-    name: Name,
-    position: usize,
-) -> Result<(), Refusal>
-    requires { (length key.now ≡ key_length) × (e ≡ edition_in f.now) × (name ≡ name_in f.now) × (position + entry_length ≤ length f.now)
-        × ((entry_at f.now position).length ≤ max_picture)
-        × ((entry_at f.now position).offset + ((entry_at f.now position).length + seal_length) ≤ length f.now) }
-    ensures { result ≡ tested (verdict_on key.now f.now (record_part f.now position ∷ [])) }
-{
-    let x = entry_at(f, position);
-    let next = position + ENTRY_LENGTH;
-    let start = x.offset as usize;
-    let end = start + (x.length as usize + SEAL_LENGTH as usize);
-    let none: [u8; 0] = [];
-    let answer = burst::verify_part(
-        e,
-        key,
-        name,
-        x.shot,
-        &f[position..next],
-        &none,
-        &f[start..end],
-    );
-    answer.map_err(|_| Refusal::TagDiffers(x.shot.0))?;
-    Ok(())
-}
-
-// Verifies the records of all entries, in order.
-fn verify_records(
-    key: &[u8],
-    f: &[u8],
-    e: Edition,
-    name: Name,
-    kept: Place,
-    start: usize,
-) -> Result<(), Refusal>
-    requires { (length key.now ≡ key_length) × (front_rules f.now ≡ true) × (e ≡ edition_in f.now) × (name ≡ name_in f.now)
-        × (kept.0 ≡ kept_in f.now) × (start ≡ index_offset_in f.now) }
-    ensures { result ≡ tested (verdict_on key.now f.now (record_parts kept.0 start f.now)) }
-{
-    for place in 0..kept.0 {
-        let position = start + burst::index_length(Place(place));
-        verify_record(key, f, e, name, position)?;
-    }
-    Ok(())
-}
-
-// Verifies the closing seal; header, then index, are its associated data.
-fn verify_closing(
-    key: &[u8],
-    f: &[u8],
-    e: Edition,
-    name: Name,
+// A file whose front rules hold, with the key of its sealed parts, and what its front says.
+#[derive(Clone, Copy)]
+struct Reading<'a> {
+    key: &'a [u8],
+    f: &'a [u8],
     h: Header,
-) -> Result<Released, Refusal>
-    requires { (length key.now ≡ key_length) × (front_rules f.now ≡ true) × (e ≡ edition_in f.now) × (name ≡ name_in f.now) × (h ≡ header_in f.now) }
-    ensures { opened_as result ≡ answer_in key.now f.now (closing_part f.now) }
+    e: Edition,
+    name: Name,
+    ghost keyed: { length key.now ≡ key_length },
+    ghost ruled: { front_rules f.now ≡ true },
+    ghost header: { h ≡ header_in f.now },
+    ghost edition: { e ≡ edition_in f.now },
+    ghost named: { name ≡ name_in f.now },
+}
+
+fn reading_of<'a>(key: &'a [u8], f: &'a [u8]) -> Reading<'a>
+    requires { (length key.now ≡ key_length) × (front_rules f.now ≡ true) }
+    ensures { (result.key.now ≡ key.now) × (result.f.now ≡ f.now) }
 {
-    let n = e.header as usize;
-    let start = h.index as usize;
-    let end = h.closing as usize;
-    burst::verify_part(e, key, name, Shot(0), &f[..n], &f[start..end], &f[end..])
+    Reading {
+        key,
+        f,
+        h: header_in(f),
+        e: edition_in(f),
+        name: name_in(f),
+    }
+}
+
+impl<'a> Reading<'a> {
+    // Where the entry of a place stands in the file.
+    fn position(&self, place: Place) -> usize
+        ensures { result ≡ position_of self.now.f.now place.0 }
+    {
+        self.h.index as usize + burst::index_length(place)
+    }
+
+    // Verifies the record of a place.
+    fn verify_record(&self, place: Place) -> Result<(), Refusal>
+        requires { place.0 < kept_in self.now.f.now }
+        ensures { result ≡ tested (verdict_on self.now.key.now self.now.f.now (record_part self.now.f.now (position_of self.now.f.now place.0) ∷ [])) }
+    {
+        let f = self.f;
+        let position = self.position(place);
+        let x = entry_at(f, position);
+        let next = position + ENTRY_LENGTH;
+        let start = x.offset as usize;
+        let end = start + (x.length as usize + SEAL_LENGTH as usize);
+        let answer = burst::verify_part(
+            self.e,
+            self.key,
+            self.name,
+            x.shot,
+            &f[position..next],
+            &[],
+            &f[start..end],
+        );
+        answer.map_err(|_| Refusal::TagDiffers(x.shot.0))?;
+        Ok(())
+    }
+
+    // Verifies the records of all places, in order.
+    fn verify_records(&self) -> Result<(), Refusal>
+        ensures { result ≡ tested (verdict_on self.now.key.now self.now.f.now (record_parts (kept_in self.now.f.now) (index_offset_in self.now.f.now) self.now.f.now)) }
+    {
+        for place in 0..self.h.kept.0 {
+            self.verify_record(Place(place))?;
+        }
+        Ok(())
+    }
+
+    // Verifies the closing seal; header, then index, are its associated data.
+    fn verify_closing(&self) -> Result<Released, Refusal>
+        ensures { opened_as result ≡ answer_in self.now.key.now self.now.f.now (closing_part self.now.f.now) }
+    {
+        let f = self.f;
+        let n = self.e.header as usize;
+        let start = self.h.index as usize;
+        let end = self.h.closing as usize;
+        burst::verify_part(
+            self.e,
+            self.key,
+            self.name,
+            Shot(0),
+            &f[..n],
+            &f[start..end],
+            &f[end..],
+        )
+    }
 }
 
 pub fn check(key: &[u8], f: &[u8]) -> Result<Summary, Refusal>
@@ -301,19 +323,17 @@ pub fn check(key: &[u8], f: &[u8]) -> Result<Summary, Refusal>
     if !front_ok(f) {
         return Err(Refusal::FrontBroken);
     }
-    let h = header_in(f);
-    let e = edition_in(f);
-    let name = name_in(f);
-    let closing = verify_closing(key, f, e, name, h)?;
-    verify_records(key, f, e, name, h.kept, h.index as usize)?;
+    let file = reading_of(key, f);
+    let closing = file.verify_closing()?;
+    file.verify_records()?;
     let site_mark = closing.secret;
     Ok(Summary {
-        burst_number: h.burst_number,
+        burst_number: file.h.burst_number,
         site_mark,
-        taken: h.taken,
-        kept: h.kept,
-        dropped: h.dropped,
-        camera: name.camera,
+        taken: file.h.taken,
+        kept: file.h.kept,
+        dropped: file.h.dropped,
+        camera: file.name.camera,
     })
 }
 
