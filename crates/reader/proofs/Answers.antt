@@ -128,6 +128,10 @@ accepted key f h =
     let d = first-agrees key f (closing_part f) (record_parts (kept_in f) (index_offset_in f) f) (agree (verdict key f) p₇.0) in
     record { key16 = eqb-true _ _ (not-false _ p₁.0); front = front f (not-false _ p₁₂.0); closing = d.0; records = d.1 }
 
+pub ruled : (key f : Bytes) → check_refusal key f ≡ 0 → front_rules f ≡ true
+unfolding check_refusal
+ruled key f h = not-false _ (passed (not (front_rules f)) _ _ (passed (not (eqb (length key) key_length)) _ _ h).1).0
+
 -- ---- a place
 pub record Found (key f : Bytes) (place : ℕ) : Type 0 where
   pub zero : check_refusal key f ≡ 0

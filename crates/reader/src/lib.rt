@@ -294,6 +294,39 @@ impl<'a> Reading<'a> {
         Ok(())
     }
 
+    // Opens the record of a place, whose tag agrees: the picture is written to the front of out.
+    fn open_record(&self, place: Place, out: &mut [u8]) -> Result<Picture, Refusal>
+        requires { (place.0 < kept_in self.now.f.now)
+            × (agrees self.now.key.now self.now.f.now (record_part self.now.f.now (position_of self.now.f.now place.0)) ≡ true)
+            × ((entry_at self.now.f.now (position_of self.now.f.now place.0)).length ≤ length out.old) }
+        ensures { (picture_as result ≡ fetched_as (entry_at self.now.f.now (position_of self.now.f.now place.0))
+                (mark_in self.now.key.now self.now.f.now (record_part self.now.f.now (position_of self.now.f.now place.0)))) ×
+            (out.new ≡ put_bytes out.old 0 (body_in self.now.key.now self.now.f.now (record_part self.now.f.now (position_of self.now.f.now place.0)))) }
+    {
+        let f = self.f;
+        let position = self.position(place);
+        let x = entry_at(f, position);
+        let next = position + ENTRY_LENGTH;
+        let start = x.offset as usize;
+        let end = start + (x.length as usize + SEAL_LENGTH as usize);
+        let got = burst::open_part(
+            self.e,
+            self.key,
+            self.name,
+            x.shot,
+            &f[position..next],
+            &[],
+            &f[start..end],
+            out,
+        )?;
+        let stamp = got.secret;
+        Ok(Picture {
+            shot: x.shot,
+            stamp,
+            length: x.length,
+        })
+    }
+
     // Verifies the closing seal; header, then index, are its associated data.
     fn verify_closing(&self) -> Result<Released, Refusal>
         ensures { opened_as result ≡ answer_in self.now.key.now self.now.f.now (closing_part self.now.f.now) }
@@ -349,45 +382,6 @@ pub fn locate(key: &[u8], f: &[u8], place: Place) -> Result<usize, Refusal>
     Ok(h.index as usize + burst::index_length(place))
 }
 
-// Opens the record of the entry x, which stands at a position of the file.
-fn open_record(
-    key: &[u8],
-    f: &[u8],
-    position: usize,
-    x: Entry,
-    out: &mut [u8],
-) -> Result<Picture, Refusal>
-    requires { (length key.now ≡ key_length) × ((edition_in f.now).header ≤ length f.now) × (x ≡ entry_at f.now position)
-        × (agrees key.now f.now (record_part f.now position) ≡ true)
-        × (position + entry_length ≤ length f.now) × (x.offset + (x.length + seal_length) ≤ length f.now) × (x.length ≤ max_picture) × (x.length ≤ length out.old) }
-    ensures { (picture_as result ≡ fetched_as x (mark_in key.now f.now (record_part f.now position))) ×
-        (out.new ≡ put_bytes out.old 0 (body_in key.now f.now (record_part f.now position))) }
-{
-    let e = edition_in(f);
-    let name = name_in(f);
-    let shot = x.shot;
-    let next = position + ENTRY_LENGTH;
-    let start = x.offset as usize;
-    let end = start + (x.length as usize + SEAL_LENGTH as usize);
-    let none: [u8; 0] = [];
-    let got = burst::open_part(
-        e,
-        key,
-        name,
-        shot,
-        &f[position..next],
-        &none,
-        &f[start..end],
-        out,
-    )?;
-    let stamp = got.secret;
-    Ok(Picture {
-        shot,
-        stamp,
-        length: x.length,
-    })
-}
-
 pub fn fetch(key: &[u8], f: &[u8], place: Place, out: &mut [u8]) -> Result<Picture, Refusal>
     ensures { (picture_as result ≡ fetch_answer key.now f.now place.0 out.old) ×
         (out.new ≡ fetch_output key.now f.now place.0 out.old) }
@@ -397,7 +391,7 @@ pub fn fetch(key: &[u8], f: &[u8], place: Place, out: &mut [u8]) -> Result<Pictu
     if out.len() < x.length as usize {
         return Err(Refusal::OutputTooShort);
     }
-    open_record(key, f, position, x, out)
+    reading_of(key, f).open_record(place, out)
 }
 
 // The sealed record of a place, as that part of the file; empty where the call is refused. The file comes first, since the part is lent from it.
