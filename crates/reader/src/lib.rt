@@ -9,7 +9,7 @@ ghost use Rattle.burst.specs.Editions.{max_entries, max_header, Known};
 ghost use Rattle.burst.specs.Parts.{seal_length, key_length};
 ghost use Rattle.burst.specs.Layout.{max_picture};
 ghost use Rattle.burst.specs.Index.{index_rules};
-ghost use Rattle.reader.specs.Front.{header_in, kept_in, index_offset_in, position_of, entry_at, entries_at, edition_in, camera_of, name_in, all_zero, zeros_of, rest_rules, front_rules};
+ghost use Rattle.reader.specs.Front.{header_in, kept_in, index_offset_in, position_of, entry_at, entries_at, edition_in, camera_of, name_in, rest_rules, front_rules};
 ghost use Rattle.icepole.specs.Answers.{opened_as};
 ghost use Rattle.reader.specs.Reader.{closing_part, record_part, record_parts, agrees, answer_in, mark_in, body_in, verdict_on, fetched_as};
 ghost use Rattle.reader.specs.Reader.{summary_as, position_as, picture_as, check_mark, check_answer, locate_answer, record_refusal, record_offset, record_bytes_in, fetch_answer, fetch_output};
@@ -160,17 +160,7 @@ fn all_zero(bytes: &[u8]) -> bool
     bytes.iter().all(|x| *x == 0)
 }
 
-// Whether the header's bytes behind the camera number, or where there is none behind the nine fields, are zero.
-fn zeros_ok(e: Edition, f: &[u8]) -> bool
-    requires { Known e × (e.header ≤ length f.now) }
-    ensures { result ≡ all_zero (zeros_of e f.now) }
-{
-    let start = CAMERA_AT + e.camera as usize;
-    let end = e.header as usize;
-    all_zero(&f[start..end])
-}
-
-// The rules of the header's bytes behind its nine fields.
+// The rules of the header's bytes behind its nine fields: a camera number is not 0, and the bytes behind it are zero.
 fn rest_ok(e: Edition, f: &[u8]) -> bool
     requires { Known e × (e.header ≤ length f.now) }
     ensures { result ≡ rest_rules e f.now }
@@ -179,7 +169,9 @@ fn rest_ok(e: Edition, f: &[u8]) -> bool
     if burst::no_camera(e, camera) {
         return false;
     }
-    zeros_ok(e, f)
+    let start = CAMERA_AT + e.camera as usize;
+    let end = e.header as usize;
+    all_zero(&f[start..end])
 }
 
 // The front rules. Sums are of wider numbers, so none wraps.
@@ -300,7 +292,7 @@ impl<'a> Reading<'a> {
             × (agrees self.now.key.now self.now.f.now (record_part self.now.f.now (position_of self.now.f.now place.0)) ≡ true)
             × ((entry_at self.now.f.now (position_of self.now.f.now place.0)).length ≤ length out.old) }
         ensures { (picture_as result ≡ fetched_as (entry_at self.now.f.now (position_of self.now.f.now place.0))
-                (mark_in self.now.key.now self.now.f.now (record_part self.now.f.now (position_of self.now.f.now place.0)))) ×
+            (mark_in self.now.key.now self.now.f.now (record_part self.now.f.now (position_of self.now.f.now place.0)))) ×
             (out.new ≡ put_bytes out.old 0 (body_in self.now.key.now self.now.f.now (record_part self.now.f.now (position_of self.now.f.now place.0)))) }
     {
         let f = self.f;
