@@ -66,8 +66,8 @@ fn read_entries(f: &[u8], start: usize, entries: &mut [Entry])
     requires { start + entry_length * length entries.old ≤ length f.now }
     ensures { entries.new ≡ entries_at (length entries.old) start f.now }
 {
-    for i in 0..entries.len() {
-        entries[i] = entry_at(f, start + ENTRY_LENGTH * i);
+    for (i, x) in entries.iter_mut().enumerate() {
+        *x = entry_at(f, start + ENTRY_LENGTH * i);
     }
 }
 
@@ -76,6 +76,7 @@ fn index_ok(f: &[u8], e: Edition, kept: Place, start: u32, taken: Shot) -> bool
     requires { (start + entry_length * kept.0 ≤ length f.now) × (kept.0 ≤ max_entries) × (e.header ≤ max_header) }
     ensures { result ≡ index_rules 0 e.header taken.0 start (entries_at kept.0 start f.now) }
 {
+    // no heap: room for the most entries of any edition
     let mut room = [burst::no_entry(); MAX_ENTRIES];
     let entries = &mut room[..kept.0 as usize];
     read_entries(f, start as usize, entries);
@@ -231,20 +232,20 @@ struct Reading<'a> {
     ghost named: { name ≡ name_in f.now },
 }
 
-fn reading_of<'a>(key: &'a [u8], f: &'a [u8]) -> Reading<'a>
-    requires { (length key.now ≡ key_length) × (front_rules f.now ≡ true) }
-    ensures { (result.key.now ≡ key.now) × (result.f.now ≡ f.now) }
-{
-    Reading {
-        key,
-        f,
-        h: header_in(f),
-        e: edition_in(f),
-        name: name_in(f),
-    }
-}
-
 impl<'a> Reading<'a> {
+    fn of(key: &'a [u8], f: &'a [u8]) -> Self
+        requires { (length key.now ≡ key_length) × (front_rules f.now ≡ true) }
+        ensures { (result.key.now ≡ key.now) × (result.f.now ≡ f.now) }
+    {
+        Reading {
+            key,
+            f,
+            h: header_in(f),
+            e: edition_in(f),
+            name: name_in(f),
+        }
+    }
+
     // Where the entry of a place stands in the file.
     fn position(&self, place: Place) -> usize
         ensures { result ≡ position_of self.now.f.now place.0 }
@@ -348,7 +349,7 @@ pub fn check(key: &[u8], f: &[u8]) -> Result<Summary, Refusal>
     if !front_ok(f) {
         return Err(Refusal::FrontBroken);
     }
-    let file = reading_of(key, f);
+    let file = Reading::of(key, f);
     let closing = file.verify_closing()?;
     file.verify_records()?;
     let site_mark = closing.secret;
@@ -383,7 +384,7 @@ pub fn fetch(key: &[u8], f: &[u8], place: Place, out: &mut [u8]) -> Result<Pictu
     if out.len() < x.length as usize {
         return Err(Refusal::OutputTooShort);
     }
-    reading_of(key, f).open_record(place, out)
+    Reading::of(key, f).open_record(place, out)
 }
 
 // The sealed record of a place, as that part of the file; empty where the call is refused. The file comes first, since the part is lent from it.

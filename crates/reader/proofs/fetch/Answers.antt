@@ -38,8 +38,8 @@ returns-then-out-x c =
     let n = ap (λ (x : Entry). x.length) (entry t) in
     fetch-5 a.key.now a.f.now a.place.0 a.out.now (found t) (omega (arith, n, c.if-out-x))
 
-pub reading_of-requires : goal.reading_of-requires
-reading_of-requires c =
+pub of-requires : goal.of-requires
+of-requires c =
     let w = located-found _ _ _ _ c.in_ok-position.ensures refl in (w.accepted.key16, ruled _ _ w.zero)
 
 -- the reading is of key and file
@@ -48,7 +48,7 @@ open_record-requires c =
     let a = c.args in
     let t = (goal.at.open_record-requires c).After-entry_at-x in
     let n = ap (λ (x : Entry). x.length) (entry t) in
-    rw (c.reading_of.ensures.0, c.reading_of.ensures.1) ((found t).below, (found t).agrees, omega (arith, n, c.if-out-x))
+    rw (c.of.ensures.0, c.of.ensures.1) ((found t).below, (found t).agrees, omega (arith, n, c.if-out-x))
 
 pub returns : goal.returns
 returns c =
@@ -56,5 +56,5 @@ returns c =
     let t = (goal.at.returns c).After-entry_at-x in
     let n = ap (λ (x : Entry). x.length) (entry t) in
     let p = fetch-0 a.key.now a.f.now a.place.0 a.out.now (found t) (omega (arith, n, c.if-out-x)) in
-    let o = rw (c.reading_of.ensures.0, c.reading_of.ensures.1) at c.open_record.ensures in
+    let o = rw (c.of.ensures.0, c.of.ensures.1) at c.open_record.ensures in
     (o.0 ∙ p.0, o.1 ∙ p.1)

@@ -1,8 +1,8 @@
--- `reader::reading_of` meets its contract.
+-- `reader::Reading::of` meets its contract.
 -- Assumes nothing.
 use native.Mathlib.Omega.{arith}
 use Rattle.reader.proofs.Rules.{front}
-use Rattle.reader.proofs.reading_of.Goals as goal
+use Rattle.reader.proofs.Reading.of.Goals as goal
 
 pub header_in-requires : goal.header_in-requires
 header_in-requires c = let w = front _ c.requires.1 in omega (arith, w)
