@@ -16,9 +16,8 @@ use Rattle.burst.specs.Editions.{max_entries}
 use Rattle.reader.specs.declared.Header.{Header}
 use Rattle.reader.specs.Front.{burst_number_in, dropped_in, entries_at, entry_at, front_rules, header_in, index_offset_in, kept_in, taken_in}
 use Rattle.reader.proofs.Rules.{front}
-use Rattle.listing.specs.declared.Listed.{Listed}
 use Rattle.plain_text.specs.Text.{ascii, field}
-use Rattle.listing.specs.Listing.{text_room, front_lines, head_lines, list_answer, list_refusal, list_output, listing, shot_line, shot_lines, max_listed}
+use Rattle.listing.specs.Listing.{Listed, text_room, front_lines, head_lines, list_answer, list_refusal, list_output, listing, shot_line, shot_lines, max_listed}
 use Rattle.plain_text.proofs.Puts.{Put, field-length, put_then}
 
 -- ---- lengths

@@ -1,12 +1,13 @@
 -- What the lister prints for a file, without a key (01, "Afterwards": "The lister"; 02, N1): the front only is tested.
 -- Assumes nothing.
-use Rattle.std.specs.Prelude.{cond, List, [], ◌∷◌, ◌++◌, ℕ, ◌*◌, ltb, length}
+use Rattle.std.specs.Prelude.{cond, List, [], ◌∷◌, ◌++◌, ℕ, ◌*◌, ltb, length, Result}
+use Rattle.refusals.specs.declared.Refusal.{Refusal}
+use Rattle.refusals.specs.Numbers.{number_of, mark_of, value_or}
 use Rattle.bytes_le.specs.Bytes.{Bytes, put_bytes}
 use Rattle.icepole.specs.Answers.{◌when◌, refusal, unless, given}
 use Rattle.burst.specs.declared.Entry.{Entry}
 use Rattle.burst.specs.Editions.{max_entries}
 use Rattle.reader.specs.Front.{taken_in, kept_in, dropped_in, burst_number_in, index_offset_in, entries_at, front_rules}
-use Rattle.listing.specs.declared.Listed.{Listed}
 use Rattle.plain_text.specs.Text.{ascii, field}
 
 -- the longest file that is listed
@@ -44,6 +45,16 @@ abbrev pub text_room : ℕ
 text_room = 80 * max_entries
 
 -- ---- the call
+-- what it answers, with its number of document 01: a refusal number, 0 when done, its mark, and the text's length
+pub record Listed : Type 0 where
+  pub refusal : ℕ
+  pub mark : ℕ
+  pub length : ℕ
+
+-- what is returned, as such an answer
+abbrev pub listed_as : Result ℕ Refusal → Listed
+listed_as r = record { refusal = number_of r; mark = mark_of r; length = value_or (λ n. n) 0 r }
+
 module _ (f out : Bytes) where
   -- 5 where the text does not fit
   unfoldable pub list_refusal : ℕ

@@ -6,24 +6,16 @@ ghost use Rattle.bytes_le.specs.Bytes.{put_bytes};
 ghost use Rattle.burst.specs.Fields.{entry_length};
 ghost use Rattle.burst.specs.Editions.{max_entries};
 ghost use Rattle.reader.specs.Front.{entries_at};
-ghost use Rattle.listing.specs.Listing.{head_lines, shot_line, shot_lines, listing, text_room, list_answer, list_output};
+ghost use Rattle.listing.specs.Listing.{head_lines, shot_line, shot_lines, listing, text_room, listed_as, list_answer, list_output};
 
-use burst::{ENTRY_LENGTH, MAX_ENTRIES, Place};
-use icepole::OUTPUT_TOO_SHORT;
+use burst::{MAX_ENTRIES, Place};
+use refusals::Refusal;
 
 // The longest file that is listed.
 pub const MAX_LISTED: usize = 65536;
 
 // Every text has room in so many bytes: 80 for each shot of the longest burst.
 pub const TEXT_ROOM: usize = 80 * MAX_ENTRIES;
-
-// What a listing answers: a refusal number with its mark, or the text's length.
-#[derive(Clone, Copy)]
-pub struct Listed {
-    pub refusal: u32,
-    pub mark: u32,
-    pub length: usize,
-}
 
 // The lines of burst and counts, at the front of out.
 fn put_head(out: &mut [u8], burst_number: u64, taken: u64, kept: u64, dropped: u64) -> usize
@@ -54,15 +46,10 @@ fn put_shots(f: &[u8], kept: Place, start: usize, out: &mut [u8], from: usize) -
     ensures { (result ≡ from + length (shot_lines (entries_at kept.0 start f.now)))
         × (out.new ≡ put_bytes out.old from (shot_lines (entries_at kept.0 start f.now))) }
 {
-    let mut left = kept.0 as usize;
-    let mut position = start;
     let mut at = from;
-    while 0 < left {
-        let e = reader::entry_at(f, position);
-        let next = put_shot(out, at, e.shot.0 as u64, e.offset as u64, e.length as u64);
-        at = next;
-        position = position + ENTRY_LENGTH;
-        left = left - 1;
+    for place in 0..kept.0 {
+        let e = reader::entry_at(f, start + burst::index_length(Place(place)));
+        at = put_shot(out, at, e.shot.0 as u64, e.offset as u64, e.length as u64);
     }
     at
 }
@@ -91,23 +78,15 @@ fn put_listing(f: &[u8], out: &mut [u8]) -> usize
     put_shots(f, kept, index as usize, out, from)
 }
 
-// The listing of a file. The text is made in an array that every text has room in.
-pub fn list_front(f: &[u8], out: &mut [u8]) -> Listed
-    ensures { (result ≡ list_answer f.now out.old) × (out.new ≡ list_output f.now out.old) }
+// The listing of a file: the text's length. The text is made in an array that every text has room in.
+pub fn list_front(f: &[u8], out: &mut [u8]) -> Result<usize, Refusal>
+    ensures { (listed_as result ≡ list_answer f.now out.old) × (out.new ≡ list_output f.now out.old) }
 {
     let mut text = [0u8; TEXT_ROOM];
     let count = put_listing(f, &mut text);
     if out.len() < count {
-        return Listed {
-            refusal: OUTPUT_TOO_SHORT,
-            mark: 0,
-            length: 0,
-        };
+        return Err(Refusal::OutputTooShort);
     }
     bytes_le::put_bytes(out, 0, &text[..count]);
-    Listed {
-        refusal: 0,
-        mark: 0,
-        length: count,
-    }
+    Ok(count)
 }

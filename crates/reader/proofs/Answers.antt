@@ -12,15 +12,10 @@ use Rattle.bytes_le.specs.Bytes.{Bytes, put_bytes}
 use Rattle.icepole.proofs.Numbers.{passed}
 use Rattle.burst.specs.declared.Entry.{Entry}
 use Rattle.burst.specs.declared.Name.{Name}
-use Rattle.reader.specs.declared.Checked.{Checked}
-use Rattle.reader.specs.declared.Fetched.{Fetched}
 use Rattle.reader.specs.declared.Header.{Header}
-use Rattle.reader.specs.declared.Located.{Located}
-use Rattle.reader.specs.declared.Verdict.{Verdict}
-use Rattle.reader.specs.declared.Verdict.TheVariants.{Agree, Differs}
-use Rattle.reader.specs.Verdicts.{verdict_number, verdict_mark}
+use Rattle.reader.specs.Verdicts.{Verdict, Agree, Differs, verdict_number, verdict_mark}
 use Rattle.reader.specs.Front.{header_in, name_in, kept_in, index_offset_in, entry_at, position_of, front_rules}
-use Rattle.reader.specs.Reader.{closing_part, record_part, record_parts, agrees, mark_in, body_in, sealed_in, verdict_on, verdict, not_checked, not_fetched, fetched_as, check_refusal}
+use Rattle.reader.specs.Reader.{Checked, Located, Fetched, closing_part, record_part, record_parts, agrees, mark_in, body_in, sealed_in, verdict_on, verdict, not_checked, not_fetched, fetched_as, check_refusal}
 use Rattle.reader.specs.Reader.{check_mark, check_answer, record_refusal, locate_answer, record_offset, record_bytes_in, fetch_refusal, fetch_answer, fetch_output}
 use Rattle.burst.specs.Parts.{key_length}
 use Rattle.reader.proofs.Rules.{Front, front, InRange, in-range-at}
@@ -132,6 +127,10 @@ accepted key f h =
     let p₇ = first-passed (verdict_number (verdict key f)) _ p₁₂.1 in
     let d = first-agrees key f (closing_part f) (record_parts (kept_in f) (index_offset_in f) f) (agree (verdict key f) p₇.0) in
     record { key16 = eqb-true _ _ (not-false _ p₁.0); front = front f (not-false _ p₁₂.0); closing = d.0; records = d.1 }
+
+pub ruled : (key f : Bytes) → check_refusal key f ≡ 0 → front_rules f ≡ true
+unfolding check_refusal
+ruled key f h = not-false _ (passed (not (front_rules f)) _ _ (passed (not (eqb (length key) key_length)) _ _ h).1).0
 
 -- ---- a place
 pub record Found (key f : Bytes) (place : ℕ) : Type 0 where

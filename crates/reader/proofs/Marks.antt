@@ -7,9 +7,7 @@ use Prim.Native.Nat.{ℕ, zero, suc, ◌+◌, ◌*◌, ◌<◌}
 use native.Mathlib.Omega.{arith}
 use Rattle.bytes_le.specs.Bytes.{Bytes}
 use Rattle.burst.proofs.Rules.{clash}
-use Rattle.reader.specs.declared.Verdict.{Verdict}
-use Rattle.reader.specs.declared.Verdict.TheVariants.{Agree, Differs}
-use Rattle.reader.specs.Verdicts.{verdict_number, verdict_mark}
+use Rattle.reader.specs.Verdicts.{Verdict, Agree, Differs, verdict_number, verdict_mark}
 use Rattle.reader.specs.Front.{kept_in, index_offset_in, entry_at, position_of}
 use Rattle.reader.specs.Reader.{closing_part, record_part, record_parts, agrees, verdict_on, verdict}
 use Rattle.reader.proofs.Parts.{agree, parts-end, parts_next, parts-differ, all-agree, first-agrees}

@@ -2,42 +2,66 @@
 -- Assumes nothing.
 use mathlib.Core.Bool.{true, false}
 use mathlib.Core.List.{◌++◌}
-use mathlib.Core.Path.{◌≡◌, ap, ◌∙◌}
-use Prim.Native.Nat.{ℕ, ◌+◌, ◌-◌, ◌*◌, ◌≤◌}
+use mathlib.Core.Path.{◌≡◌, refl, sym, ap, ◌∙◌}
+use Prim.Native.Nat.{ℕ, ◌+◌, ◌-◌, ◌*◌, ◌≤◌, ◌<◌}
 use native.Mathlib.Omega.{arith}
-use lib.Dec.{eqb}
 use lib.ListN.{length, take, drop, length-drop}
 use lib.Seq.{length-take-le}
 use Rattle.bytes_le.specs.Bytes.{Bytes, put_bytes}
-use Rattle.icepole.specs.declared.Opened.{Opened}
+use Rattle.std.specs.Prelude.{Result, Ok, Err, is_ok}
+use Rattle.refusals.specs.declared.Refusal.{Refusal}
+use Rattle.refusals.specs.Numbers.{number, mark, number_of, mark_of}
+use Rattle.refusals.proofs.Laws.{positive}
+use Rattle.icepole.specs.declared.Released.{Released}
+use Rattle.icepole.specs.Answers.{Opened, opened_as}
 use Rattle.burst.specs.declared.Edition.{Edition}
 use Rattle.burst.specs.declared.Entry.{Entry}
 use Rattle.burst.specs.declared.Name.{Name}
 use Rattle.burst.specs.Fields.{entry_length}
-use Rattle.burst.specs.Parts.{seal_length, part_answer, part_output}
-use Rattle.burst.proofs.Parts.{answer-agrees, answer-stands, answer-differs, answer-mark, part-output}
+use Rattle.burst.specs.Parts.{seal_length, part_answer, part_output, part_refusal}
+use Rattle.burst.specs.Layout.{max_picture}
+use Rattle.burst.proofs.Parts.{answer-stands, answer-differs, answer-mark, part-output}
 use Rattle.reader.specs.declared.Header.{Header}
-use Rattle.reader.specs.Front.{edition_in, name_in, header_in, kept_in, index_offset_in, entry_at}
+use Rattle.reader.specs.Front.{edition_in, name_in, header_in, kept_in, index_offset_in, position_of, entry_at}
 use Rattle.reader.specs.Reader.{Part, closing_part, record_part, sealed_in, agrees, mark_in, body_in, answer_in}
-use Rattle.reader.proofs.Rules.{Front}
+use Rattle.reader.proofs.Rules.{Front, in-range-at}
 
 -- ---- what the answer to verifying a part tells of it
-module _ (key f : Bytes) (p : Part) (r : Opened) (is : r ≡ answer_in key f p) where
-  pub tag-told : eqb r.refusal 0 ≡ agrees key f p
-  unfolding agrees answer_in
-  tag-told = answer-agrees (edition_in f) key (name_in f) p.shot p.associated (sealed_in key f p) r is
+module _ (key f : Bytes) (p : Part) where
+  module _ (r : Result Released Refusal) (is : opened_as r ≡ answer_in key f p) where
+    stands : number_of r ≡ 0 → agrees key f p ≡ true
+    unfolding agrees answer_in
+    stands h = answer-stands (edition_in f) key (name_in f) p.shot p.associated (sealed_in key f p) _ is h
 
-  pub tag-differs : (r.refusal ≡ 0 → ⊥) → agrees key f p ≡ false
-  unfolding agrees answer_in
-  tag-differs h = answer-differs (edition_in f) key (name_in f) p.shot p.associated (sealed_in key f p) r is h
+    differs : (number_of r ≡ 0 → ⊥) → agrees key f p ≡ false
+    unfolding agrees answer_in
+    differs h = answer-differs (edition_in f) key (name_in f) p.shot p.associated (sealed_in key f p) _ is h
 
-  pub tag-stands : r.refusal ≡ 0 → agrees key f p ≡ true
-  unfolding agrees answer_in
-  tag-stands h = answer-stands (edition_in f) key (name_in f) p.shot p.associated (sealed_in key f p) r is h
+    mark-zero : mark_of r ≡ 0
+    unfolding answer_in part_answer
+    mark-zero = ap (λ (x : Opened). x.mark) is
 
-  pub mark-told : agrees key f p ≡ true → seal_length ≤ length (sealed_in key f p) → r.secret ≡ mark_in key f p
+    number-seven : agrees key f p ≡ false → number_of r ≡ 7
+    unfolding answer_in agrees part_answer part_refusal
+    number-seven h = ap (λ (x : Opened). x.refusal) is ∙ simp h
+
+  pub tag-stands : (x : Released) → opened_as (Ok x) ≡ answer_in key f p → agrees key f p ≡ true
+  tag-stands x is = stands (Ok x) is refl
+
+  pub tag-differs : (e : Refusal) → opened_as (Err e) ≡ answer_in key f p → agrees key f p ≡ false
+  tag-differs e is = differs (Err e) is (λ z. let h = positive e in omega (arith, h, z))
+
+  pub tag-told : (r : Result Released Refusal) → opened_as r ≡ answer_in key f p → is_ok r ≡ agrees key f p
+  tag-told (Ok x) is = sym (tag-stands x is)
+  tag-told (Err e) is = sym (tag-differs e is)
+
+  -- the number and the mark of a tag that differs
+  pub told-7 : (e : Refusal) → opened_as (Err e) ≡ answer_in key f p → (number e ≡ 7) × (mark e ≡ 0)
+  told-7 e is = (number-seven (Err e) is (tag-differs e is), mark-zero (Err e) is)
+
+  pub mark-told : (x : Released) → opened_as (Ok x) ≡ answer_in key f p → seal_length ≤ length (sealed_in key f p) → x.secret ≡ mark_in key f p
   unfolding agrees mark_in answer_in
-  mark-told h l = answer-mark (edition_in f) key (name_in f) p.shot p.associated (sealed_in key f p) r is h l
+  mark-told x is l = answer-mark (edition_in f) key (name_in f) p.shot p.associated (sealed_in key f p) _ is (tag-stands x is) l
 
 pub body-told : (key f : Bytes) (p : Part) (out : Bytes) → agrees key f p ≡ true
     → part_output (edition_in f) key (name_in f) p.shot p.associated (sealed_in key f p) out ≡ put_bytes out 0 (body_in key f p)
@@ -65,6 +89,22 @@ lent f position x h g =
       entry_length_lem = ap length e₁ ∙ length-take-le entry_length (drop position f) (omega (arith, d₁, h));
       sealed_length = ap length e₂ ∙ length-take-le (x.length + seal_length) (drop x.offset f) (omega (arith, d₂, g));
     }
+
+-- ---- the entry of a place, as it was read
+pub record Placed (f : Bytes) (position : ℕ) (x : Entry) : Type 0 where
+  pub before-end : position + entry_length ≤ length f
+  pub within : x.offset + (x.length + seal_length) ≤ length f
+  pub most : x.length ≤ max_picture
+  pub slices : Lent f position x
+
+pub placed : (f : Bytes) (place position : ℕ) (x : Entry) → Front f → place < kept_in f → position ≡ position_of f place → x ≡ entry_at f position → Placed f position x
+placed f place position x w h e is =
+    let g = in-range-at f position place w h e in
+    let n = ap (λ (y : Entry). y.length) is in
+    let o = ap (λ (y : Entry). y.offset) is in
+    let b : position + entry_length ≤ length f = omega (arith, w, h, e) in
+    let r : x.offset + (x.length + seal_length) ≤ length f = omega (arith, w, g, n, o) in
+    record { before-end = b; within = r; most = omega (arith, g, n); slices = lent f position x b r }
 
 -- ---- the record of the entry x
 module _ (key f : Bytes) (e : Edition) (row : e ≡ edition_in f) (name : Name) (named : name ≡ name_in f) (position : ℕ) (x : Entry) (is : x ≡ entry_at f position)

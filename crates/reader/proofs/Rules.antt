@@ -2,7 +2,8 @@
 -- Assumes nothing.
 use mathlib.Core.Bool.{Bool, true, false, ◌&&◌}
 use mathlib.Core.List.{List, [], ◌∷◌, ◌++◌}
-use mathlib.Core.Path.{◌≡◌, sym, ap, ap₂, subst, ◌∙◌}
+use Rattle.std.specs.List.{list_all}
+use mathlib.Core.Path.{◌≡◌, refl, sym, ap, ap₂, subst, ◌∙◌}
 use Prim.Native.Nat.{ℕ, zero, suc, ◌+◌, ◌*◌, ◌≤◌, ◌<◌}
 use native.Mathlib.Omega.{arith}
 use native.Mathlib.Numerals.{add-one}
@@ -191,18 +192,7 @@ in-range-at f position j w g e =
     subst (λ (i : ℕ). InRange f i (index_offset_in f)) (sym e)
     (in-range f (kept_in f) (index_offset_in f) 0 (edition_in f).header (taken_in f) (index_offset_in f) j w.index g)
 
--- ---- a turn over the header's bytes behind its nine fields
-module _ (f : Bytes) (header i : ℕ) (h : i < header) (g : header ≤ length f) where
-  next-byte : all_zero (drop i (take header f)) ≡ (eqb (get_or f i 0) 0 && all_zero (drop (suc i) (take header f)))
-  next-byte = ap all_zero (slice-cons i header f 0 h g)
-
-  pub byte-zero : get_or f i 0 ≡ 0 → all_zero (drop i (take header f)) ≡ all_zero (drop (i + 1) (take header f))
-  byte-zero z =
-      next-byte ∙ ap (λ (b : Bool). b && all_zero (drop (suc i) (take header f))) (eq-eqb (get_or f i 0) 0 z)
-      ∙ ap (λ (k : ℕ). all_zero (drop k (take header f))) (sym (add-one i))
-
-  pub byte-not : (get_or f i 0 ≡ 0 → ⊥) → all_zero (drop i (take header f)) ≡ false
-  byte-not z = next-byte ∙ ap (λ (b : Bool). b && all_zero (drop (suc i) (take header f))) (ne_eqb (get_or f i 0) 0 z)
-
-pub bytes-end : (f : Bytes) (header i : ℕ) → header ≤ i → all_zero (drop i (take header f)) ≡ true
-bytes-end f header i h = ap all_zero (drop_of_length-le (take header f) {i = i} (simp length-take (omega arith)))
+-- ---- the header's bytes behind its nine fields
+pub all-zero : (xs : Bytes) → list_all (λ x. eqb x 0) xs ≡ all_zero xs
+all-zero [] = refl
+all-zero (x ∷ xs) = ap (λ (b : Bool). eqb x 0 && b) (all-zero xs)

@@ -1,19 +1,19 @@
 -- The reader's calls (01, "Reader"; 02, N1): what check, fetch and record answer and leave, for good and bad calls.
 -- Assumes nothing.
-use Rattle.std.specs.Prelude.{Bool, cond, not, List, [], ◌∷◌, ◌++◌, ℕ, zero, suc, ◌+◌, ◌*◌, eqb, leb, ltb, length, take, drop}
+use Rattle.std.specs.Prelude.{Bool, cond, not, List, [], ◌∷◌, ◌++◌, ℕ, zero, suc, ◌+◌, ◌*◌, eqb, leb, ltb, length, take, drop, Result}
+use Rattle.refusals.specs.declared.Refusal.{Refusal}
+use Rattle.refusals.specs.Numbers.{number_of, mark_of, value_or}
 use Rattle.bytes_le.specs.Bytes.{Bytes, put_bytes}
-use Rattle.icepole.specs.declared.Opened.{Opened}
-use Rattle.icepole.specs.Answers.{refusal, ◌when◌, unless, given}
+use Rattle.icepole.specs.Answers.{Opened, refusal, ◌when◌, unless, given}
 use Rattle.burst.specs.Fields.{entry_length}
 use Rattle.burst.specs.Parts.{seal_length, part_agrees, part_mark, part_body, part_answer, key_length, no_mark}
 use Rattle.burst.specs.Layout.{closing_offset}
 use Rattle.burst.specs.declared.Entry.{Entry}
-use Rattle.reader.specs.declared.Checked.{Checked}
-use Rattle.reader.specs.declared.Fetched.{Fetched}
-use Rattle.reader.specs.declared.Located.{Located}
-use Rattle.reader.specs.declared.Verdict.{Verdict}
-use Rattle.reader.specs.declared.Verdict.TheVariants.{Agree, Differs}
-use Rattle.reader.specs.Verdicts.{verdict_number, verdict_mark}
+use Rattle.burst.specs.declared.Place.{Place}
+use Rattle.burst.specs.declared.Shot.{Shot}
+use Rattle.reader.specs.declared.Picture.{Picture}
+use Rattle.reader.specs.declared.Summary.{Summary}
+use Rattle.reader.specs.Verdicts.{Verdict, Agree, Differs, verdict_number, verdict_mark}
 use Rattle.reader.specs.Front.{edition_in, name_in, taken_in, kept_in, dropped_in, burst_number_in, camera_in, index_offset_in, entry_at, position_of, front_rules}
 
 -- ---- the sealed parts of a file
@@ -72,6 +72,57 @@ module _ (key f : Bytes) where
   -- the closing seal, then the records in order
   unfoldable pub verdict : Verdict
   verdict = verdict_on (closing_part f ∷ record_parts (kept_in f) (index_offset_in f) f)
+
+-- ---- answers, with every number of document 01: a refusal number, 0 when done, its mark, and the rest
+-- what check answers: what the file says
+pub record Checked : Type 0 where
+  pub refusal : ℕ
+  pub mark : ℕ
+  pub burst_number : ℕ
+  pub site_mark : Bytes
+  pub taken : Shot
+  pub kept : Place
+  pub dropped : ℕ
+  pub camera : ℕ
+
+-- where the entry of a place stands in the file
+pub record Located : Type 0 where
+  pub refusal : ℕ
+  pub mark : ℕ
+  pub position : ℕ
+
+-- what fetch answers
+pub record Fetched : Type 0 where
+  pub refusal : ℕ
+  pub mark : ℕ
+  pub shot : Shot
+  pub stamp : Bytes
+  pub length : ℕ
+
+-- what the calls return, as such an answer
+abbrev pub summary_as : Result Summary Refusal → Checked
+summary_as r = record {
+  refusal = number_of r;
+  mark = mark_of r;
+  burst_number = value_or (λ s. s.burst_number) 0 r;
+  site_mark = value_or (λ s. s.site_mark) no_mark r;
+  taken = value_or (λ s. s.taken) (record { 0 = 0 }) r;
+  kept = value_or (λ s. s.kept) (record { 0 = 0 }) r;
+  dropped = value_or (λ s. s.dropped) 0 r;
+  camera = value_or (λ s. s.camera) 0 r;
+}
+
+abbrev pub position_as : Result ℕ Refusal → Located
+position_as r = record { refusal = number_of r; mark = mark_of r; position = value_or (λ n. n) 0 r }
+
+abbrev pub picture_as : Result Picture Refusal → Fetched
+picture_as r = record {
+  refusal = number_of r;
+  mark = mark_of r;
+  shot = value_or (λ p. p.shot) (record { 0 = 0 }) r;
+  stamp = value_or (λ p. p.stamp) no_mark r;
+  length = value_or (λ p. p.length) 0 r;
+}
 
 -- ---- what a refused call answers
 abbrev pub not_checked : ℕ → ℕ → Checked

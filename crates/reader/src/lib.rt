@@ -1,31 +1,32 @@
 // The reader of bursts (01, "Reader"; 02, N1): check, fetch by place, and the sealed record of a place.
 #![tactic(auto)]
 
-ghost use Rattle.std.specs.Prelude.{◌≡◌, true, ◌+◌, ◌*◌, ◌≤◌, ◌<◌, length, take};
+ghost use Rattle.std.specs.Prelude.{◌≡◌, ◌==◌, true, ◌+◌, ◌*◌, ◌≤◌, ◌<◌, [], ◌∷◌, length};
+ghost use Rattle.std.specs.List.{list_all};
 ghost use Rattle.bytes_le.specs.Bytes.{put_bytes};
 ghost use Rattle.burst.specs.Fields.{fields_length, entry_length};
 ghost use Rattle.burst.specs.Editions.{max_entries, max_header, Known};
 ghost use Rattle.burst.specs.Parts.{seal_length, key_length};
 ghost use Rattle.burst.specs.Layout.{max_picture};
 ghost use Rattle.burst.specs.Index.{index_rules};
-ghost use Rattle.reader.specs.Front.{header_in, kept_in, index_offset_in, entry_at, entries_at, edition_in, camera_of, name_in, all_zero, zeros_of, rest_rules, front_rules};
-ghost use Rattle.reader.specs.Reader.{closing_part, record_part, record_parts, agrees, answer_in, mark_in, body_in, verdict_on, not_checked, not_fetched, fetched_as};
-ghost use Rattle.reader.specs.Reader.{check_mark, check_answer, locate_answer, record_refusal, record_offset, record_bytes_in, fetch_answer, fetch_output};
-ghost use Rattle.reader.specs.Verdicts.{verdict_number, verdict_mark};
+ghost use Rattle.reader.specs.Front.{header_in, kept_in, index_offset_in, position_of, entry_at, entries_at, edition_in, camera_of, name_in, rest_rules, front_rules};
+ghost use Rattle.icepole.specs.Answers.{opened_as};
+ghost use Rattle.reader.specs.Reader.{closing_part, record_part, record_parts, agrees, answer_in, mark_in, body_in, verdict_on, fetched_as};
+ghost use Rattle.reader.specs.Reader.{summary_as, position_as, picture_as, check_mark, check_answer, locate_answer, record_refusal, record_offset, record_bytes_in, fetch_answer, fetch_output};
+ghost use Rattle.reader.specs.Verdicts.{tested};
 
 use burst::{
     BURST_NUMBER_AT, BURST_NUMBER_WIDTH, CAMERA_AT, CLOSING_OFFSET_AT, COUNT_WIDTH, DROPPED_AT,
-    EDITION_AT, ENTRY_LENGTH, Edition, Entry, FIELDS_LENGTH, FRONT_BROKEN, INDEX_OFFSET_AT,
-    KEPT_AT, MARK_BYTES, MAX_ENTRIES, NO_SUCH_PLACE, Name, OFFSET_WIDTH, PICTURE_LENGTH_AT,
-    PICTURE_OFFSET_AT, Place, RECORD_OFFSET_AT, SEAL_LENGTH, Shot, TAKEN_AT, TOTAL_AT, ZEROS_AT,
+    EDITION_AT, ENTRY_LENGTH, Edition, Entry, FIELDS_LENGTH, INDEX_OFFSET_AT, KEPT_AT, MARK_BYTES,
+    MAX_ENTRIES, Name, OFFSET_WIDTH, PICTURE_LENGTH_AT, PICTURE_OFFSET_AT, Place, RECORD_OFFSET_AT,
+    SEAL_LENGTH, Shot, TAKEN_AT, TOTAL_AT, ZEROS_AT,
 };
-use icepole::{KEY_BYTES, KEY_LENGTH, OUTPUT_TOO_SHORT, Opened, TAG_DIFFERS};
+use icepole::{KEY_BYTES, Released};
+use refusals::Refusal;
 
-// What check answers: a refusal number with its mark, or what the file says.
+// What a file that check accepts says.
 #[derive(Clone, Copy)]
-pub struct Checked {
-    pub refusal: u32,
-    pub mark: u32,
+pub struct Summary {
     pub burst_number: u64,
     pub site_mark: [u8; MARK_BYTES],
     pub taken: Shot,
@@ -35,29 +36,12 @@ pub struct Checked {
     pub camera: u32,
 }
 
-// Where the entry of a place stands in the file.
+// What goes with a picture that fetch wrote.
 #[derive(Clone, Copy)]
-pub struct Located {
-    pub refusal: u32,
-    pub mark: u32,
-    pub position: usize,
-}
-
-// What fetch answers.
-#[derive(Clone, Copy)]
-pub struct Fetched {
-    pub refusal: u32,
-    pub mark: u32,
+pub struct Picture {
     pub shot: Shot,
     pub stamp: [u8; MARK_BYTES],
     pub length: u32,
-}
-
-// Whether the tags of some sealed parts agree, or the first shot whose tag differs, 0 for the closing seal.
-#[derive(Clone, Copy)]
-pub enum Verdict {
-    Agree,
-    Differs(Shot),
 }
 
 // The entry that stands at a position of the file.
@@ -77,23 +61,14 @@ pub fn entry_at(f: &[u8], position: usize) -> Entry
     }
 }
 
-// The entries from a position of the file on, and zeros behind them.
-fn entries_in(f: &[u8], kept: Place, start: usize) -> [Entry; MAX_ENTRIES]
-    requires { (start + entry_length * kept.0 ≤ length f.now) × (kept.0 ≤ max_entries) }
-    ensures { take kept.0 result ≡ entries_at kept.0 start f.now }
+// Reads the entries from a position of the file on, as many as are wanted.
+fn read_entries(f: &[u8], start: usize, entries: &mut [Entry])
+    requires { start + entry_length * length entries.old ≤ length f.now }
+    ensures { entries.new ≡ entries_at (length entries.old) start f.now }
 {
-    let n = kept.0 as usize;
-    let none = burst::no_entry();
-    let mut entries = [none; MAX_ENTRIES];
-    let mut i: usize = 0;
-    let mut position = start;
-    while i < n {
-        let x = entry_at(f, position);
-        entries[i] = x;
-        position = position + ENTRY_LENGTH;
-        i += 1;
+    for (i, x) in entries.iter_mut().enumerate() {
+        *x = entry_at(f, start + ENTRY_LENGTH * i);
     }
-    entries
 }
 
 // Whether the entries from a position of the file on obey the index rules.
@@ -101,8 +76,11 @@ fn index_ok(f: &[u8], e: Edition, kept: Place, start: u32, taken: Shot) -> bool
     requires { (start + entry_length * kept.0 ≤ length f.now) × (kept.0 ≤ max_entries) × (e.header ≤ max_header) }
     ensures { result ≡ index_rules 0 e.header taken.0 start (entries_at kept.0 start f.now) }
 {
-    let entries = entries_in(f, kept, start as usize);
-    burst::entries_ok(entries, kept, e.header, taken, start)
+    // no heap: room for the most entries of any edition
+    let mut room = [burst::no_entry(); MAX_ENTRIES];
+    let entries = &mut room[..kept.0 as usize];
+    read_entries(f, start as usize, entries);
+    burst::entries_ok(entries, e.header, taken, start)
 }
 
 // The numbers of the header's nine fields.
@@ -177,23 +155,13 @@ fn name_in(f: &[u8]) -> Name
     }
 }
 
-// Whether the header's bytes behind the camera number, or where there is none behind the nine fields, are zero.
-fn zeros_ok(e: Edition, f: &[u8]) -> bool
-    requires { Known e × (e.header ≤ length f.now) }
-    ensures { result ≡ all_zero (zeros_of e f.now) }
+fn all_zero(bytes: &[u8]) -> bool
+    ensures { result ≡ list_all (λ x. x == 0) bytes.now }
 {
-    let header = e.header as usize;
-    let mut i = CAMERA_AT + e.camera as usize;
-    while i < header {
-        if f[i] != 0 {
-            return false;
-        }
-        i += 1;
-    }
-    true
+    bytes.iter().all(|x| *x == 0)
 }
 
-// The rules of the header's bytes behind its nine fields.
+// The rules of the header's bytes behind its nine fields: a camera number is not 0, and the bytes behind it are zero.
 fn rest_ok(e: Edition, f: &[u8]) -> bool
     requires { Known e × (e.header ≤ length f.now) }
     ensures { result ≡ rest_rules e f.now }
@@ -202,7 +170,9 @@ fn rest_ok(e: Edition, f: &[u8]) -> bool
     if burst::no_camera(e, camera) {
         return false;
     }
-    zeros_ok(e, f)
+    let start = CAMERA_AT + e.camera as usize;
+    let end = e.header as usize;
+    all_zero(&f[start..end])
 }
 
 // The front rules. Sums are of wider numbers, so none wraps.
@@ -247,228 +217,178 @@ pub fn front_ok(f: &[u8]) -> bool
     index_ok(f, e, h.kept, h.index, h.taken)
 }
 
-// Whether the tag agrees of the record whose entry stands at a position.
-fn record_agrees(key: &[u8], f: &[u8], e: Edition, name: Name, position: usize) -> bool
-    requires { (length key.now ≡ key_length) × (e ≡ edition_in f.now) × (name ≡ name_in f.now) × (position + entry_length ≤ length f.now)
-        × ((entry_at f.now position).length ≤ max_picture)
-        × ((entry_at f.now position).offset + ((entry_at f.now position).length + seal_length) ≤ length f.now) }
-    ensures { result ≡ agrees key.now f.now (record_part f.now position) }
-{
-    let x = entry_at(f, position);
-    let next = position + ENTRY_LENGTH;
-    let start = x.offset as usize;
-    let end = start + (x.length as usize + SEAL_LENGTH as usize);
-    let none: [u8; 0] = [];
-    let got = burst::verify_part(
-        e,
-        key,
-        name,
-        x.shot,
-        &f[position..next],
-        &none,
-        &f[start..end],
-    );
-    got.refusal == 0
-}
-
-// The verdict on the records of all entries, in order.
-fn verify_records(
-    key: &[u8],
-    f: &[u8],
+// A file whose front rules hold, with the key of its sealed parts, and what its front says.
+#[derive(Clone, Copy)]
+struct Reading<'a> {
+    key: &'a [u8],
+    f: &'a [u8],
+    h: Header,
     e: Edition,
     name: Name,
-    kept: Place,
-    start: usize,
-) -> Verdict
-    requires { (length key.now ≡ key_length) × (front_rules f.now ≡ true) × (e ≡ edition_in f.now) × (name ≡ name_in f.now)
-        × (kept.0 ≡ kept_in f.now) × (start ≡ index_offset_in f.now) }
-    ensures { result ≡ verdict_on key.now f.now (record_parts kept.0 start f.now) }
-{
-    let mut left = kept.0 as usize;
-    let mut position = start;
-    while 0 < left {
-        if !record_agrees(key, f, e, name, position) {
-            let x = entry_at(f, position);
-            let shot = x.shot;
-            return Verdict::Differs(shot);
+    ghost keyed: { length key.now ≡ key_length },
+    ghost ruled: { front_rules f.now ≡ true },
+    ghost header: { h ≡ header_in f.now },
+    ghost edition: { e ≡ edition_in f.now },
+    ghost named: { name ≡ name_in f.now },
+}
+
+impl<'a> Reading<'a> {
+    fn of(key: &'a [u8], f: &'a [u8]) -> Self
+        requires { (length key.now ≡ key_length) × (front_rules f.now ≡ true) }
+        ensures { (result.key.now ≡ key.now) × (result.f.now ≡ f.now) }
+    {
+        Reading {
+            key,
+            f,
+            h: header_in(f),
+            e: edition_in(f),
+            name: name_in(f),
         }
-        position = position + ENTRY_LENGTH;
-        left = left - 1;
     }
-    Verdict::Agree
-}
 
-// The number and the mark of a verdict.
-fn verdict_number(v: Verdict) -> u32
-    ensures { result ≡ verdict_number v }
-{
-    match v {
-        Verdict::Differs(shot) => TAG_DIFFERS,
-        Verdict::Agree => 0,
+    // Where the entry of a place stands in the file.
+    fn position(&self, place: Place) -> usize
+        ensures { result ≡ position_of self.now.f.now place.0 }
+    {
+        self.h.index as usize + burst::index_length(place)
+    }
+
+    // Verifies the record of a place.
+    fn verify_record(&self, place: Place) -> Result<(), Refusal>
+        requires { place.0 < kept_in self.now.f.now }
+        ensures { result ≡ tested (verdict_on self.now.key.now self.now.f.now (record_part self.now.f.now (position_of self.now.f.now place.0) ∷ [])) }
+    {
+        let f = self.f;
+        let position = self.position(place);
+        let x = entry_at(f, position);
+        let next = position + ENTRY_LENGTH;
+        let start = x.offset as usize;
+        let end = start + (x.length as usize + SEAL_LENGTH as usize);
+        let answer = burst::verify_part(
+            self.e,
+            self.key,
+            self.name,
+            x.shot,
+            &f[position..next],
+            &[],
+            &f[start..end],
+        );
+        answer.map_err(|_| Refusal::TagDiffers(x.shot.0))?;
+        Ok(())
+    }
+
+    // Verifies the records of all places, in order.
+    fn verify_records(&self) -> Result<(), Refusal>
+        ensures { result ≡ tested (verdict_on self.now.key.now self.now.f.now (record_parts (kept_in self.now.f.now) (index_offset_in self.now.f.now) self.now.f.now)) }
+    {
+        for place in 0..self.h.kept.0 {
+            self.verify_record(Place(place))?;
+        }
+        Ok(())
+    }
+
+    // Opens the record of a place, whose tag agrees: the picture is written to the front of out.
+    fn open_record(&self, place: Place, out: &mut [u8]) -> Result<Picture, Refusal>
+        requires { (place.0 < kept_in self.now.f.now)
+            × (agrees self.now.key.now self.now.f.now (record_part self.now.f.now (position_of self.now.f.now place.0)) ≡ true)
+            × ((entry_at self.now.f.now (position_of self.now.f.now place.0)).length ≤ length out.old) }
+        ensures { (picture_as result ≡ fetched_as (entry_at self.now.f.now (position_of self.now.f.now place.0))
+            (mark_in self.now.key.now self.now.f.now (record_part self.now.f.now (position_of self.now.f.now place.0)))) ×
+            (out.new ≡ put_bytes out.old 0 (body_in self.now.key.now self.now.f.now (record_part self.now.f.now (position_of self.now.f.now place.0)))) }
+    {
+        let f = self.f;
+        let position = self.position(place);
+        let x = entry_at(f, position);
+        let next = position + ENTRY_LENGTH;
+        let start = x.offset as usize;
+        let end = start + (x.length as usize + SEAL_LENGTH as usize);
+        let got = burst::open_part(
+            self.e,
+            self.key,
+            self.name,
+            x.shot,
+            &f[position..next],
+            &[],
+            &f[start..end],
+            out,
+        )?;
+        let stamp = got.secret;
+        Ok(Picture {
+            shot: x.shot,
+            stamp,
+            length: x.length,
+        })
+    }
+
+    // Verifies the closing seal; header, then index, are its associated data.
+    fn verify_closing(&self) -> Result<Released, Refusal>
+        ensures { opened_as result ≡ answer_in self.now.key.now self.now.f.now (closing_part self.now.f.now) }
+    {
+        let f = self.f;
+        let n = self.e.header as usize;
+        let start = self.h.index as usize;
+        let end = self.h.closing as usize;
+        burst::verify_part(
+            self.e,
+            self.key,
+            self.name,
+            Shot(0),
+            &f[..n],
+            &f[start..end],
+            &f[end..],
+        )
     }
 }
 
-fn verdict_mark(v: Verdict) -> u32
-    ensures { result ≡ verdict_mark v }
-{
-    match v {
-        Verdict::Differs(shot) => shot.0 as u32,
-        Verdict::Agree => 0,
-    }
-}
-
-fn not_checked(refusal: u32, mark: u32) -> Checked
-    ensures { result ≡ not_checked refusal mark }
-{
-    Checked {
-        refusal,
-        mark,
-        burst_number: 0,
-        site_mark: [0u8; MARK_BYTES],
-        taken: Shot(0),
-        kept: Place(0),
-        dropped: 0,
-        camera: 0,
-    }
-}
-
-// Verifies the closing seal; header, then index, are its associated data.
-fn verify_closing(key: &[u8], f: &[u8], e: Edition, name: Name, h: Header) -> Opened
-    requires { (length key.now ≡ key_length) × (front_rules f.now ≡ true) × (e ≡ edition_in f.now) × (name ≡ name_in f.now) × (h ≡ header_in f.now) }
-    ensures { result ≡ answer_in key.now f.now (closing_part f.now) }
-{
-    let n = e.header as usize;
-    let start = h.index as usize;
-    let end = h.closing as usize;
-    burst::verify_part(e, key, name, Shot(0), &f[..n], &f[start..end], &f[end..])
-}
-
-pub fn check(key: &[u8], f: &[u8]) -> Checked
-    ensures { result ≡ check_answer key.now f.now }
+pub fn check(key: &[u8], f: &[u8]) -> Result<Summary, Refusal>
+    ensures { summary_as result ≡ check_answer key.now f.now }
 {
     if key.len() != KEY_BYTES {
-        return not_checked(KEY_LENGTH, 0);
+        return Err(Refusal::KeyLength);
     }
     if !front_ok(f) {
-        return not_checked(FRONT_BROKEN, 0);
+        return Err(Refusal::FrontBroken);
     }
-    let h = header_in(f);
-    let e = edition_in(f);
-    let name = name_in(f);
-    let closing = verify_closing(key, f, e, name, h);
-    if closing.refusal != 0 {
-        return not_checked(TAG_DIFFERS, 0);
-    }
-    let verdict = verify_records(key, f, e, name, h.kept, h.index as usize);
-    let number = verdict_number(verdict);
-    if number != 0 {
-        return not_checked(number, verdict_mark(verdict));
-    }
+    let file = Reading::of(key, f);
+    let closing = file.verify_closing()?;
+    file.verify_records()?;
     let site_mark = closing.secret;
-    let taken = h.taken;
-    let kept = h.kept;
-    Checked {
-        refusal: 0,
-        mark: 0,
-        burst_number: h.burst_number,
+    Ok(Summary {
+        burst_number: file.h.burst_number,
         site_mark,
-        taken,
-        kept,
-        dropped: h.dropped,
-        camera: name.camera,
-    }
+        taken: file.h.taken,
+        kept: file.h.kept,
+        dropped: file.h.dropped,
+        camera: file.name.camera,
+    })
 }
 
 // Does all of check, and says where the entry of a place stands.
-pub fn locate(key: &[u8], f: &[u8], place: Place) -> Located
-    ensures { result ≡ locate_answer key.now f.now place.0 }
+pub fn locate(key: &[u8], f: &[u8], place: Place) -> Result<usize, Refusal>
+    ensures { position_as result ≡ locate_answer key.now f.now place.0 }
 {
-    let c = check(key, f);
-    if c.refusal != 0 {
-        return Located {
-            refusal: c.refusal,
-            mark: c.mark,
-            position: 0,
-        };
-    }
+    let c = check(key, f)?;
     if place.0 >= c.kept.0 {
-        return Located {
-            refusal: NO_SUCH_PLACE,
-            mark: 0,
-            position: 0,
-        };
+        return Err(Refusal::NoSuchPlace);
     }
     let h = header_in(f);
-    Located {
-        refusal: 0,
-        mark: 0,
-        position: h.index as usize + burst::index_length(place),
-    }
+    Ok(h.index as usize + burst::index_length(place))
 }
 
-fn not_fetched(refusal: u32, mark: u32) -> Fetched
-    ensures { result ≡ not_fetched refusal mark }
-{
-    Fetched {
-        refusal,
-        mark,
-        shot: Shot(0),
-        stamp: [0u8; MARK_BYTES],
-        length: 0,
-    }
-}
-
-// Opens the record of the entry x, which stands at a position of the file.
-fn open_record(key: &[u8], f: &[u8], position: usize, x: Entry, out: &mut [u8]) -> Fetched
-    requires { (length key.now ≡ key_length) × ((edition_in f.now).header ≤ length f.now) × (x ≡ entry_at f.now position)
-        × (agrees key.now f.now (record_part f.now position) ≡ true)
-        × (position + entry_length ≤ length f.now) × (x.offset + (x.length + seal_length) ≤ length f.now) × (x.length ≤ max_picture) × (x.length ≤ length out.old) }
-    ensures { (result ≡ fetched_as x (mark_in key.now f.now (record_part f.now position))) ×
-        (out.new ≡ put_bytes out.old 0 (body_in key.now f.now (record_part f.now position))) }
-{
-    let e = edition_in(f);
-    let name = name_in(f);
-    let shot = x.shot;
-    let next = position + ENTRY_LENGTH;
-    let start = x.offset as usize;
-    let end = start + (x.length as usize + SEAL_LENGTH as usize);
-    let none: [u8; 0] = [];
-    let got = burst::open_part(
-        e,
-        key,
-        name,
-        shot,
-        &f[position..next],
-        &none,
-        &f[start..end],
-        out,
-    );
-    let stamp = got.secret;
-    Fetched {
-        refusal: 0,
-        mark: 0,
-        shot,
-        stamp,
-        length: x.length,
-    }
-}
-
-pub fn fetch(key: &[u8], f: &[u8], place: Place, out: &mut [u8]) -> Fetched
-    ensures { (result ≡ fetch_answer key.now f.now place.0 out.old) ×
+pub fn fetch(key: &[u8], f: &[u8], place: Place, out: &mut [u8]) -> Result<Picture, Refusal>
+    ensures { (picture_as result ≡ fetch_answer key.now f.now place.0 out.old) ×
         (out.new ≡ fetch_output key.now f.now place.0 out.old) }
 {
-    let l = locate(key, f, place);
-    if l.refusal != 0 {
-        return not_fetched(l.refusal, l.mark);
-    }
-    let x = entry_at(f, l.position);
+    let position = locate(key, f, place)?;
+    let x = entry_at(f, position);
     if out.len() < x.length as usize {
-        return not_fetched(OUTPUT_TOO_SHORT, 0);
+        return Err(Refusal::OutputTooShort);
     }
-    open_record(key, f, l.position, x, out)
+    Reading::of(key, f).open_record(place, out)
 }
 
 // The sealed record of a place, as that part of the file; empty where the call is refused. The file comes first, since the part is lent from it.
+// Document 01 gives the call this form ("two numbers lent for that"), so that it answers no Result.
 pub fn record<'a>(
     f: &'a [u8],
     key: &[u8],
@@ -481,13 +401,13 @@ pub fn record<'a>(
         (refusal.new ≡ record_refusal key.now f.now place.0) ×
         (mark.new ≡ check_mark key.now f.now) }
 {
-    let l = locate(key, f, place);
-    *refusal = l.refusal;
-    *mark = l.mark;
-    if l.refusal != 0 {
+    let located = locate(key, f, place);
+    *refusal = refusals::number_of(&located);
+    *mark = refusals::mark_of(&located);
+    let Ok(position) = located else {
         return &f[..0];
-    }
-    let x = entry_at(f, l.position);
+    };
+    let x = entry_at(f, position);
     let start = x.offset as usize;
     let end = start + (x.length as usize + SEAL_LENGTH as usize);
     &f[start..end]

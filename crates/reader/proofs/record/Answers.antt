@@ -5,28 +5,42 @@ use Prim.Native.Nat.{ℕ, ◌+◌, ◌-◌}
 use native.Mathlib.Omega.{arith}
 use native.Mathlib.Nat.{add_comm, add-zero}
 use lib.ListN.{take, drop}
+use Rattle.std.specs.Prelude.{Result, Ok}
+use Rattle.refusals.specs.declared.Refusal.{Refusal}
+use Rattle.refusals.specs.Numbers.{number_of}
+use Rattle.refusals.proofs.Laws.{positive}
 use Rattle.burst.specs.declared.Entry.{Entry}
+use Rattle.reader.specs.Front.{entry_at, position_of}
+use Rattle.reader.specs.Reader.{position_as, locate_answer}
 use Rattle.reader.proofs.Answers.{located-refusal, located-mark, located-found, located-position, located-entry, record-refused, record-done}
 use Rattle.reader.proofs.record.Goals as goal
+use Rattle.reader.proofs.record.Goals.{In-Ok}
 
-pub returns-then-l-ne0 : goal.returns-then-l-ne0
-returns-then-l-ne0 c =
+-- a place that was located
+told : (c : In-Ok) → let a = c.args in position_as (Ok c.in-Ok.position) ≡ locate_answer a.key.now a.f.now a.place.0
+told c = ap position_as (sym c.in-Ok.is) ∙ c.locate-located.ensures
+
+pub returns-in_default : goal.returns-in_default
+returns-in_default c =
     let a = c.args in
-    let n = located-refusal _ _ _ _ c.locate-l.ensures in
-    let m = located-mark _ _ _ _ c.locate-l.ensures in
-    let p = record-refused a.key.now a.f.now a.place.0 (λ z. c.if-l-ne0.true (n ∙ z)) in
-    (p.0, refl, sym (add-zero _) ∙ ap (λ (i : ℕ). a.f.ref_ptr.1 + i) p.1, n, m)
+    let e = c.locate-located.ensures in
+    let n = c.number_of.ensures ∙ located-refusal _ _ _ _ e in
+    let p = record-refused a.key.now a.f.now a.place.0
+    (λ z. let h = positive c.in_default.field-0 in let y = ap number_of (sym c.in_default.is) ∙ located-refusal _ _ _ _ e ∙ z in omega (arith, h, y)) in
+    (p.0, refl, sym (add-zero _) ∙ ap (λ (i : ℕ). a.f.ref_ptr.1 + i) p.1, n, c.mark_of.ensures ∙ located-mark _ _ _ _ e)
 
 pub entry_at-x-requires : goal.entry_at-x-requires
 entry_at-x-requires c =
-    let w = located-found _ _ _ _ c.locate-l.ensures c.if-l-ne0.false in
-    let e = located-position _ _ _ _ c.locate-l.ensures c.if-l-ne0.false in
+    let t = told (goal.at.entry_at-x-requires c).In-Ok in
+    let w = located-found _ _ _ _ t refl in
+    let e = located-position _ _ _ _ t refl in
     omega (arith, w.accepted.front, w.below, e)
 
 pub slice_bounds-result-end-2 : goal.slice_bounds-result-end-2
 slice_bounds-result-end-2 c =
-    let w = located-found _ _ _ _ c.locate-l.ensures c.if-l-ne0.false in
-    let e = located-entry _ _ _ _ c.locate-l.ensures c.if-l-ne0.false _ c.entry_at-x.ensures in
+    let t = told (goal.at.slice_bounds-result-end-2 c).In-Ok in
+    let w = located-found _ _ _ _ t refl in
+    let e = located-entry _ _ _ _ t refl _ c.entry_at-x.ensures in
     let n = ap (λ (x : Entry). x.length) e in
     let o = ap (λ (x : Entry). x.offset) e in
     omega (arith, w.accepted.front, w.range, n, o)
@@ -35,15 +49,14 @@ pub returns : goal.returns
 returns c =
     let a = c.args in
     let f = a.f.now in
-    let n = located-refusal _ _ _ _ c.locate-l.ensures in
-    let m = located-mark _ _ _ _ c.locate-l.ensures in
-    let e = located-entry _ _ _ _ c.locate-l.ensures c.if-l-ne0.false _ c.entry_at-x.ensures in
-    let p = record-done a.key.now f a.place.0 (sym n ∙ c.if-l-ne0.false) in
+    let t = told (goal.at.returns c).In-Ok in
+    let e = located-entry _ _ _ _ t refl _ c.entry_at-x.ensures in
+    let p = record-done a.key.now f a.place.0 (sym (located-refusal _ _ _ _ t)) in
     let x = c.entry_at-x.result in
     let q : x.offset + (x.length + 32) - x.offset ≡ x.length + 32 = omega arith in (
       ap (λ (k : ℕ). take k (drop x.offset f)) q ∙ ap (λ (y : Entry). take (y.length + 32) (drop y.offset f)) e ∙ p.0,
       refl,
       add_comm x.offset _ ∙ ap (λ (y : Entry). a.f.ref_ptr.1 + y.offset) e ∙ ap (λ (k : ℕ). a.f.ref_ptr.1 + k) p.1,
-      n,
-      m,
+      c.number_of.ensures ∙ located-refusal _ _ _ _ c.locate-located.ensures,
+      c.mark_of.ensures ∙ located-mark _ _ _ _ c.locate-located.ensures,
     )

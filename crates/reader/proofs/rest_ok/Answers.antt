@@ -1,8 +1,14 @@
 -- `reader::rest_ok` meets its contract: the camera number, then the zeros.
 -- Assumes nothing.
 use mathlib.Core.Path.{◌≡◌, sym, ap, ◌∙◌}
+use Prim.Native.Nat.{ℕ, ◌+◌, ◌-◌}
+use native.Mathlib.Omega.{arith}
+use lib.ListN.{take, drop}
+use Rattle.std.proofs.lemmas.List.{drop-take}
 use Rattle.burst.specs.Editions.{no_camera}
-use Rattle.reader.specs.Front.{camera_of, rest_rules}
+use Rattle.burst.specs.Fields.{camera_at}
+use Rattle.reader.specs.Front.{camera_of, all_zero, rest_rules}
+use Rattle.reader.proofs.Rules.{all-zero}
 use Rattle.reader.proofs.rest_ok.Goals as goal
 use Rattle.reader.proofs.rest_ok.Goals.{After-no_camera}
 
@@ -16,4 +22,13 @@ returns-then-no_camera c = sym (simp (sym (tested (goal.at.returns-then-no_camer
 
 pub returns : goal.returns
 unfolding rest_rules
-returns c = c.zeros_ok.ensures ∙ sym (simp (sym (tested (goal.at.returns c).After-no_camera) ∙ c.if-no_camera.false))
+returns c =
+    let f = c.args.f.now in
+    let start = camera_at + c.args.e.camera in
+    let end = c.args.e.header in
+    let n : start + (end - start) ≡ end = let p = c.requires in omega (arith, p.0.least, p.0.header) in
+    c.all_zero.ensures
+    ∙ all-zero (take (end - start) (drop start f))
+    ∙ ap all_zero (sym (drop-take start (end - start) f))
+    ∙ ap (λ (k : ℕ). all_zero (drop start (take k f))) n
+    ∙ sym (simp (sym (tested (goal.at.returns c).After-no_camera) ∙ c.if-no_camera.false))
