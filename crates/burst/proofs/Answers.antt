@@ -4,13 +4,11 @@ use mathlib.Core.Bool.{false}
 use mathlib.Core.List.{◌++◌}
 use mathlib.Core.Path.{◌≡◌, sym, ap, ◌∙◌}
 use Prim.Native.Nat.{ℕ, ◌+◌}
-use borrow.Author.Tests.{ne_eqb}
 use lib.ListN.{length, replicate, set}
-use Rattle.std.specs.Prelude.{Ok, Err, eqb}
-use native.Mathlib.Omega.{arith}
+use Rattle.std.specs.Prelude.{Ok, Err}
 use Rattle.refusals.specs.declared.Refusal.{Refusal}
 use Rattle.refusals.specs.Numbers.{number, mark}
-use Rattle.refusals.proofs.Laws.{positive}
+use Rattle.refusals.proofs.Laws.{some}
 use Rattle.bytes_le.specs.Bytes.{Bytes, put_bytes}
 use Rattle.burst.specs.declared.Entry.{Entry}
 use Rattle.burst.specs.declared.Recorder.{Recorder}
@@ -21,10 +19,6 @@ use Rattle.burst.specs.Index.{entry_of}
 use Rattle.burst.specs.Recorder.{edition_of, name_of, identity_of, changed, new_recorder, no_recorder, begun_as, begin_refusal, begin_answer}
 use Rattle.burst.specs.Recorder.{begin_buffer, shot_as, drop_refusal, after_drop, drop_answer, keep_refusal, after_keep, keep_answer, keep_buffer, close_refusal}
 use Rattle.burst.specs.Recorder.{after_close, closed_as, close_answer, close_buffer, recorder_header, recorder_index, recorder_seal}
-
--- a refusal is not 0
-some : (x : Refusal) → eqb (number x) 0 ≡ false
-some x = ne_eqb (number x) 0 (λ i. let h = positive x in omega (arith, h, i))
 
 -- ---- begin
 module _ (key : Bytes) (i : Identity) (b : Bytes) where

@@ -12,10 +12,8 @@ use lib.Seq.{length-take-le}
 use Rattle.bytes_le.specs.Bytes.{Bytes, put_bytes, le}
 use Rattle.burst.specs.Parts.{mark_length}
 use Rattle.burst.proofs.Puts.{grow}
-use Rattle.reader.specs.declared.Checked.{Checked}
-use Rattle.reader.specs.declared.Fetched.{Fetched}
 use Rattle.reader.specs.Front.{entry_at, position_of}
-use Rattle.reader.specs.Reader.{check_answer, record_refusal, record_offset, record_bytes_in, fetch_refusal, fetch_answer, fetch_output}
+use Rattle.reader.specs.Reader.{Checked, Fetched, check_answer, record_refusal, record_offset, record_bytes_in, fetch_refusal, fetch_answer, fetch_output}
 use Rattle.reader.proofs.Answers.{Found, record-refused, record-done, fetch-stands, fetched-refusal}
 use Rattle.burst_c.specs.Calls.{check_info_length, checked_bytes, fetch_info_length, fetched_bytes, check_call_refusal}
 use Rattle.burst_c.specs.Calls.{check_call_info, fetch_call_refusal, fetch_call_output, fetch_call_info}

@@ -3,9 +3,7 @@
 use Rattle.std.specs.Prelude.{cond, not, [], ◌∷◌, ◌++◌, ℕ, ◌+◌, ◌*◌, ◌-◌, ◌^◌, eqb, ltb, length}
 use Rattle.bytes_le.specs.Bytes.{Bytes, put_bytes, le}
 use Rattle.icepole.specs.Answers.{refusal, ◌when◌, unless}
-use Rattle.reader.specs.declared.Checked.{Checked}
-use Rattle.reader.specs.declared.Fetched.{Fetched}
-use Rattle.reader.specs.Reader.{check_answer, record_refusal, fetch_answer, fetch_output}
+use Rattle.reader.specs.Reader.{Checked, Fetched, check_answer, record_refusal, fetch_answer, fetch_output}
 use Rattle.burst.specs.Fields.{count_width, offset_width, burst_number_width, camera_width}
 use Rattle.burst.specs.Parts.{mark_length}
 

@@ -1,9 +1,10 @@
 // The C calls of include/burst.h and include/card.h.
 #![tactic(auto)]
 
-ghost use Rattle.std.specs.Prelude.{◌≡◌, cond, ◌≤◌, length};
+ghost use Rattle.std.specs.Prelude.{◌≡◌, cond, ◌≤◌, length, Ok};
+ghost use Rattle.refusals.specs.Numbers.{number_of, mark_of, value_or};
 ghost use Rattle.bytes_le.specs.Bytes.{put_bytes};
-ghost use Rattle.reader.specs.Reader.{check_mark, record_refusal, record_offset, record_bytes_in};
+ghost use Rattle.reader.specs.Reader.{summary_as, picture_as, check_mark, record_refusal, record_offset, record_bytes_in};
 ghost use Rattle.listing.specs.Listing.{list_refusal, list_answer, list_output};
 ghost use Rattle.sizing.specs.Sizing.{size_answer};
 ghost use Rattle.sizing.specs.Cards.{card_answer};
@@ -15,8 +16,8 @@ ghost use Rattle.burst.specs.Layout.{identified};
 use burst::{
     BURST_NUMBER_WIDTH, CAMERA_WIDTH, COUNT_WIDTH, MARK_BYTES, OFFSET_WIDTH, Place, SEAL_LENGTH,
 };
-use icepole::OUTPUT_TOO_SHORT;
-use reader::{Checked, Fetched};
+use reader::{Picture, Summary};
+use refusals::Refusal;
 
 // Bytes of what check and fetch put into the info.
 const CHECK_INFO: usize = BURST_NUMBER_WIDTH + MARK_BYTES + 3 * COUNT_WIDTH + CAMERA_WIDTH;
@@ -50,25 +51,34 @@ pub fn burst_replay(
         buffer,
         answers,
     );
-    if !p.whole {
-        *whole = 0;
-        return p.count;
-    }
-    *whole = 1;
+    *whole = u32::from(p.whole);
     p.count
 }
 
-fn put_checked(c: Checked, info: &mut [u8])
+fn put_summary(s: Summary, info: &mut [u8])
     requires { check_info_length ≤ length info.old }
-    ensures { info.new ≡ put_bytes info.old 0 (checked_bytes c) }
+    ensures { info.new ≡ put_bytes info.old 0 (checked_bytes (summary_as (Ok s))) }
 {
-    let site_mark = c.site_mark;
-    let i = bytes_le::store_le(info, 0, BURST_NUMBER_WIDTH, c.burst_number);
-    let j = bytes_le::put_bytes(info, i, &site_mark);
-    let k = bytes_le::store_le(info, j, COUNT_WIDTH, c.taken.0 as u64);
-    let l = bytes_le::store_le(info, k, COUNT_WIDTH, c.kept.0 as u64);
-    let m = bytes_le::store_le(info, l, COUNT_WIDTH, c.dropped as u64);
-    bytes_le::store_le(info, m, CAMERA_WIDTH, c.camera as u64);
+    let i = bytes_le::store_le(info, 0, BURST_NUMBER_WIDTH, s.burst_number);
+    let j = bytes_le::put_bytes(info, i, &s.site_mark);
+    let k = bytes_le::store_le(info, j, COUNT_WIDTH, s.taken.0 as u64);
+    let l = bytes_le::store_le(info, k, COUNT_WIDTH, s.kept.0 as u64);
+    let m = bytes_le::store_le(info, l, COUNT_WIDTH, s.dropped as u64);
+    bytes_le::store_le(info, m, CAMERA_WIDTH, s.camera as u64);
+}
+
+// Check, with what the file says put into the info.
+fn check_into(key: &[u8], file: &[u8], info: &mut [u8]) -> Result<(), Refusal>
+    ensures number { number_of result ≡ check_call_refusal key.now file.now info.old }
+    ensures mark { mark_of result ≡ check_mark key.now file.now }
+    ensures info { info.new ≡ check_call_info key.now file.now info.old }
+{
+    let summary = reader::check(key, file)?;
+    if info.len() < CHECK_INFO {
+        return Err(Refusal::OutputTooShort);
+    }
+    put_summary(summary, info);
+    Ok(())
 }
 
 pub fn burst_check(key: &[u8], file: &[u8], mark: &mut u32, info: &mut [u8]) -> u32
@@ -76,16 +86,9 @@ pub fn burst_check(key: &[u8], file: &[u8], mark: &mut u32, info: &mut [u8]) -> 
         (mark.new ≡ check_mark key.now file.now) ×
         (info.new ≡ check_call_info key.now file.now info.old) }
 {
-    let c = reader::check(key, file);
-    *mark = c.mark;
-    if c.refusal != 0 {
-        return c.refusal;
-    }
-    if info.len() < CHECK_INFO {
-        return OUTPUT_TOO_SHORT;
-    }
-    put_checked(c, info);
-    0
+    let answer = check_into(key, file, info);
+    *mark = refusals::mark_of(&answer);
+    refusals::number_of(&answer)
 }
 
 // A place as the reader takes it: a larger one than 16 bits hold becomes the largest, which is not below kept either.
@@ -98,15 +101,36 @@ fn place_of(place: usize) -> Place
     Place(place as u16)
 }
 
-fn put_fetched(r: Fetched, info: &mut [u8])
+fn put_picture(p: Picture, info: &mut [u8])
     requires { fetch_info_length ≤ length info.old }
-    ensures { info.new ≡ put_bytes info.old 0 (fetched_bytes r) }
+    ensures { info.new ≡ put_bytes info.old 0 (fetched_bytes (picture_as (Ok p))) }
 {
-    let shot = r.shot;
-    let stamp = r.stamp;
-    let i = bytes_le::store_le(info, 0, COUNT_WIDTH, shot.0 as u64);
-    let j = bytes_le::store_le(info, i, OFFSET_WIDTH, r.length as u64);
-    bytes_le::put_bytes(info, j, &stamp);
+    let i = bytes_le::store_le(info, 0, COUNT_WIDTH, p.shot.0 as u64);
+    let j = bytes_le::store_le(info, i, OFFSET_WIDTH, p.length as u64);
+    bytes_le::put_bytes(info, j, &p.stamp);
+}
+
+// Fetch, with what goes with the picture put into the info. The info is judged after the place and before the output.
+fn fetch_into(
+    key: &[u8],
+    file: &[u8],
+    place: usize,
+    out: &mut [u8],
+    info: &mut [u8],
+) -> Result<(), Refusal>
+    ensures number { number_of result ≡ fetch_call_refusal key.now file.now place out.old info.old }
+    ensures mark { mark_of result ≡ check_mark key.now file.now }
+    ensures output { out.new ≡ fetch_call_output key.now file.now place out.old info.old }
+    ensures info { info.new ≡ fetch_call_info key.now file.now place out.old info.old }
+{
+    let at = place_of(place);
+    if info.len() < FETCH_INFO {
+        reader::locate(key, file, at)?;
+        return Err(Refusal::OutputTooShort);
+    }
+    let picture = reader::fetch(key, file, at, out)?;
+    put_picture(picture, info);
+    Ok(())
 }
 
 pub fn burst_fetch(
@@ -122,22 +146,30 @@ pub fn burst_fetch(
         (out.new ≡ fetch_call_output key.now file.now place out.old info.old) ×
         (info.new ≡ fetch_call_info key.now file.now place out.old info.old) }
 {
-    let at = place_of(place);
-    if info.len() < FETCH_INFO {
-        let l = reader::locate(key, file, at);
-        *mark = l.mark;
-        if l.refusal != 0 {
-            return l.refusal;
-        }
-        return OUTPUT_TOO_SHORT;
-    }
-    let r = reader::fetch(key, file, at, out);
-    *mark = r.mark;
-    if r.refusal != 0 {
-        return r.refusal;
-    }
-    put_fetched(r, info);
-    0
+    let answer = fetch_into(key, file, place, out, info);
+    *mark = refusals::mark_of(&answer);
+    refusals::number_of(&answer)
+}
+
+// Where the sealed record of a place stands in the file.
+#[derive(Clone, Copy)]
+struct Stretch {
+    offset: u32,
+    size: u32,
+}
+
+fn stretch_of(key: &[u8], file: &[u8], place: usize) -> Result<Stretch, Refusal>
+    ensures number { number_of result ≡ record_refusal key.now file.now place }
+    ensures mark { mark_of result ≡ check_mark key.now file.now }
+    ensures offset { value_or (λ s. s.offset) 0 result ≡ record_offset key.now file.now place }
+    ensures size { value_or (λ s. s.size) 0 result ≡ length (record_bytes_in key.now file.now place) }
+{
+    let position = reader::locate(key, file, place_of(place))?;
+    let e = reader::entry_at(file, position);
+    Ok(Stretch {
+        offset: e.offset,
+        size: e.length + SEAL_LENGTH,
+    })
 }
 
 pub fn burst_record(
@@ -153,17 +185,20 @@ pub fn burst_record(
         (offset.new ≡ record_offset key.now file.now place) ×
         (size.new ≡ length (record_bytes_in key.now file.now place)) }
 {
-    let l = reader::locate(key, file, place_of(place));
-    *mark = l.mark;
-    if l.refusal != 0 {
-        *offset = 0;
-        *size = 0;
-        return l.refusal;
+    let answer = stretch_of(key, file, place);
+    *mark = refusals::mark_of(&answer);
+    match answer {
+        Ok(stretch) => {
+            *offset = stretch.offset;
+            *size = stretch.size;
+            0
+        }
+        Err(refusal) => {
+            *offset = 0;
+            *size = 0;
+            refusal.number()
+        }
     }
-    let e = reader::entry_at(file, l.position);
-    *offset = e.offset;
-    *size = e.length + SEAL_LENGTH;
-    0
 }
 
 pub fn burst_list(file: &[u8], text: &mut [u8], size: &mut u32) -> u32
@@ -171,9 +206,16 @@ pub fn burst_list(file: &[u8], text: &mut [u8], size: &mut u32) -> u32
         (text.new ≡ list_output file.now text.old) ×
         (size.new ≡ (list_answer file.now text.old).length) }
 {
-    let r = listing::list_front(file, text);
-    *size = r.length as u32;
-    r.refusal
+    match listing::list_front(file, text) {
+        Ok(count) => {
+            *size = count as u32;
+            0
+        }
+        Err(refusal) => {
+            *size = 0;
+            refusal.number()
+        }
+    }
 }
 
 pub fn burst_size_up(lengths: &[u64], file_length: &mut u64, p12: &mut u64, p6: &mut u64) -> u32
@@ -182,11 +224,20 @@ pub fn burst_size_up(lengths: &[u64], file_length: &mut u64, p12: &mut u64, p6: 
         (p12.new ≡ (size_answer lengths.now).p12) ×
         (p6.new ≡ (size_answer lengths.now).p6) }
 {
-    let s = sizing::size_up(lengths);
-    *file_length = s.file_length;
-    *p12 = s.p12;
-    *p6 = s.p6;
-    s.refusal
+    match sizing::size_up(lengths) {
+        Ok(estimate) => {
+            *file_length = estimate.file_length;
+            *p12 = estimate.p12;
+            *p6 = estimate.p6;
+            0
+        }
+        Err(refusal) => {
+            *file_length = 0;
+            *p12 = 0;
+            *p6 = 0;
+            refusal.number()
+        }
+    }
 }
 
 pub fn burst_card_line(card: u64, shots: u64, picture: u64, bursts: &mut u64, left: &mut u64) -> u32
@@ -194,8 +245,16 @@ pub fn burst_card_line(card: u64, shots: u64, picture: u64, bursts: &mut u64, le
         (bursts.new ≡ (card_answer card shots picture).bursts) ×
         (left.new ≡ (card_answer card shots picture).left) }
 {
-    let c = sizing::card_line(card, shots, picture);
-    *bursts = c.bursts;
-    *left = c.left;
-    c.refusal
+    match sizing::card_line(card, shots, picture) {
+        Ok(capacity) => {
+            *bursts = capacity.bursts;
+            *left = capacity.left;
+            0
+        }
+        Err(refusal) => {
+            *bursts = 0;
+            *left = 0;
+            refusal.number()
+        }
+    }
 }

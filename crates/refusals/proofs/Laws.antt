@@ -1,6 +1,8 @@
 -- Number and mark tell a refusal from every other and from a call that was done: a contract that gives both gives the answer.
 -- Assumes nothing.
-use Rattle.std.specs.Prelude.{◌≡◌, refl, List, [], ◌∷◌, ℕ, ◌<◌, get_or, Result, Err}
+use native.Mathlib.Omega.{arith}
+use borrow.Author.Tests.{ne_eqb}
+use Rattle.std.specs.Prelude.{◌≡◌, false, eqb, refl, List, [], ◌∷◌, ℕ, ◌<◌, get_or, Result, Err}
 use Rattle.std.specs.Result.{IsErrAnd}
 use Rattle.std.proofs.lemmas.Result.{err_from_is_err_and}
 use Rattle.std.proofs.Common.{◌∙◌, sym, ap, ap₂, rules}
@@ -27,6 +29,13 @@ positive NoCameraNumber = search rules
 positive ShotCount = search rules
 positive LogLength = search rules
 positive TooManyRounds = search rules
+
+-- a refusal's number is not that of a call that was done
+pub not-done : (e : Refusal) → number e ≡ 0 → ⊥
+not-done e h = let p = positive e in omega (arith, p, h)
+
+pub some : (e : Refusal) → eqb (number e) 0 ≡ false
+some e = ne_eqb (number e) 0 (not-done e)
 
 -- ---- number and mark tell the refusal
 -- the refusals by their numbers; a number that none has gives the first

@@ -23,7 +23,7 @@ use Rattle.trace.specs.Plain.{Firing, pictures, used_by, total_of}
 use Rattle.sizing.specs.Sizing.{planned_shot, sized_edition}
 use Rattle.sizing.specs.Cards.{CardLine, full_length, card_number, capacity_as, card_as, card_answer}
 use Rattle.sizing.specs.Sums.{max_record}
-use Rattle.sizing.proofs.Numbers.{some}
+use Rattle.refusals.proofs.Laws.{some}
 use Rattle.sizing.proofs.Plans.{planned}
 
 -- ---- the numbers, of n shots with pictures of q bytes

@@ -6,14 +6,11 @@ use mathlib.Core.Path.{◌≡◌, refl, sym, ap, ◌∙◌}
 use Prim.Native.Nat.{ℕ, zero, suc, ◌+◌, ◌≤◌, ◌<◌}
 use native.Mathlib.Omega.{arith}
 use native.Mathlib.Numerals.{add-one}
-use borrow.Author.Tests.{ne_eqb, lt-ltb, le-ltb, ltb-true, ltb-false}
-use lib.Dec.{eqb, ltb}
+use borrow.Author.Tests.{lt-ltb, le-ltb, ltb-true, ltb-false}
+use lib.Dec.{ltb}
 use lib.ListN.{length, drop, get_or}
 use lib.Seq.{drop-cons}
 use Rattle.std.specs.List.{list_any}
-use Rattle.refusals.specs.declared.Refusal.{Refusal}
-use Rattle.refusals.specs.Numbers.{number}
-use Rattle.refusals.proofs.Laws.{positive}
 use Rattle.icepole.proofs.Numbers.{passed, neither}
 use Rattle.burst.specs.declared.Edition.{Edition}
 use Rattle.burst.specs.Layout.{max_picture}
@@ -36,10 +33,6 @@ module _ (ns : List ℕ) (i : ℕ) (h : i < length ns) where
   short-here g = let d = neither (ltb max_picture n) (too_long (drop (i + 1) ns)) (sym next ∙ g) in (ltb-false _ _ d.0, d.1)
 
 -- ---- the numbers
--- a refusal's is not 0
-pub some : (x : Refusal) → eqb (number x) 0 ≡ false
-some x = ne_eqb (number x) 0 (λ i. let h = positive x in omega (arith, h, i))
-
 module _ (e : Edition) (ns : List ℕ) where
   pub size-9 : e.shots < length ns → 9 ≡ size_number e ns
   unfolding size_number

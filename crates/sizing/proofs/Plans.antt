@@ -30,7 +30,7 @@ use Rattle.trace.proofs.Seals.{burst-p12, burst-p6, burst-blocks}
 use Rattle.sizing.specs.declared.Estimate.{Estimate}
 use Rattle.sizing.specs.declared.Sums.{Sums}
 use Rattle.sizing.specs.Sizing.{lengths_of, planned_shot, planned_burst, sized_edition, too_long, size_number, estimate_as, sized_as, size_answer}
-use Rattle.sizing.proofs.Numbers.{some}
+use Rattle.refusals.proofs.Laws.{some}
 use Rattle.sizing.specs.Sums.{record_blocks, first_sums, with_shot, with_shots, After}
 
 -- ---- one shot
