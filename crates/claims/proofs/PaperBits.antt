@@ -16,7 +16,7 @@ use Rattle.bits.specs.Bits.{bit, ◌⊕◌}
 use Rattle.bytes_le.specs.Bytes.{Bytes, AllBytes, le, le_at, unle}
 use Rattle.blocks.specs.Sealing.{◌⊕₈◌, pad, xor_with}
 use Rattle.permutation.specs.State.{at, state, tabulate}
-use Rattle.state_bytes.specs.StateBytes.{Shape, bytes_of, column, state_of, word_of}
+use Rattle.state_bytes.specs.StateBytes.{bytes_of, column, state_of, word_of}
 use Rattle.bits.proofs.Cases.{two}
 use Rattle.bits.proofs.Laws.{bit-low, bit-shr, bit-xor}
 use Rattle.bytes_le.proofs.All.{all_take, all_drop}
