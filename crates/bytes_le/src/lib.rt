@@ -4,6 +4,7 @@
 ghost use Rattle.std.specs.Prelude.{◌≡◌, ◌+◌, ◌≤◌, ◌<◌, ◌^◌, length, take, drop};
 ghost use Rattle.bytes_le.specs.Bytes.{put_bytes, le, unle, le_at};
 
+// Buffer and index, and no cursor: callers put at the offsets of a layout, which their contracts name.
 // Copies all of src into out from index at on; returns the index behind it.
 pub fn put_bytes(out: &mut [u8], at: usize, src: &[u8]) -> usize
     requires { at + length src.now ≤ length out.old }
@@ -33,7 +34,7 @@ pub fn load_u64(b: &[u8], at: usize) -> u64
     u64::from_le_bytes([b[0], b[1], b[2], b[3], b[4], b[5], b[6], b[7]])
 }
 
-// Puts the n low bytes of x into out from index at on; returns the index behind them.
+// Puts the n low bytes of x into out from index at on; returns the index behind them. A loop: n has no bound here, and to_le_bytes gives eight bytes.
 pub fn store_le(out: &mut [u8], at: usize, n: usize, x: u64) -> usize
     requires { at + n ≤ length out.old }
     ensures { (result ≡ at + n) × (out.new ≡ put_bytes out.old at (le n x)) }

@@ -137,6 +137,7 @@ fn with_bit(w: u64, k: u32, b: bool) -> u64
     if b { w | (1 << k) } else { w & !(1 << k) }
 }
 
+// The index stays a number below 24, and no type of its own: the standard's formulas and the loop of keccak_f have the number.
 // RC of the round with index i: RC[2^j - 1] = rc(j + 7i), for j from 0 to 6; the other bits are 0 (FIPS 202, 3.2.5).
 fn iota_constant(i: u32) -> u64
     requires { i < 24 }

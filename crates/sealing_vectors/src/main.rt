@@ -2,7 +2,7 @@
 // The stored output was written by the Rust reference (tests/reference, sealing_vectors).
 #![tactic(auto)]
 
-ghost use Rattle.std.specs.Prelude.{◌≡◌, ◌+◌, ◌≤◌, ◌<◌, length};
+ghost use Rattle.std.specs.Prelude.{◌≤◌, length};
 
 use icepole::Variant;
 use std::{array, io};
