@@ -12,6 +12,7 @@ use round_log::Finding;
 use rounds_back::Direction;
 use state_bytes::STATE_BYTES;
 
+// A number returned and two that are written: the C interface.
 pub fn icepole_check_log(log: &[u8], agrees: &mut u32, round: &mut u32) -> u32
     ensures { (result ≡ call_refusal (verdict log.now)) ×
         (agrees.new ≡ call_agrees (verdict log.now)) ×

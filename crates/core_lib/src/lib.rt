@@ -1,4 +1,4 @@
-// The static library libcore_c.a for C: the calls of include/core.h, each under its name.
+// The static library libcore_c.a for C: the calls of include/core.h, each under its name. A name for each direction, and a number for a refusal: the C interface.
 #![tactic(auto)]
 
 ghost use Rattle.std.specs.Prelude.{◌≡◌, length};
