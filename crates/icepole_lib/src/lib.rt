@@ -6,7 +6,8 @@ ghost use Rattle.std.specs.Prelude.{◌++◌};
 ghost use Rattle.icepole_c.specs.Calls.{SealContract, OpenContract, InPlaceContract};
 ghost use Rattle.icepole_c.specs.Strips.{StartContract, StripContract, EndContract};
 
-use icepole::Variant::{self, Icepole128, Icepole128a, Icepole256a};
+use icepole::Variant;
+use icepole::Variant::{Icepole128, Icepole128a, Icepole256a};
 
 #[unsafe(no_mangle)]
 pub extern "C" fn icepole128_seal(
