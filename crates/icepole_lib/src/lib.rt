@@ -1,5 +1,5 @@
 // The static library libicepole_c.a for C: the calls of include/icepole.h, each under its name and with the contract that it has in the crate icepole_c.
-// Sealing and opening are there once for each variant: C calls them by these names.
+// Sealing and opening are there once for each variant, and what they take is lent apart: the C interface has these names and parameters.
 #![tactic(auto)]
 
 ghost use Rattle.std.specs.Prelude.{◌++◌};
