@@ -1,5 +1,6 @@
 // The calls of the camera's main firmware, which is in C: sealing, opening and opening in place under a variant, and strips of 128. Each returns the refusal
-// number, 0 when done. The crate `icepole_lib` gives them to C under the names of include/icepole.h, sealing and opening once for each variant.
+// number, 0 when done, and takes what it is lent apart, as C lends it. The crate `icepole_lib` gives them to C under the names of include/icepole.h, sealing and
+// opening once for each variant.
 #![tactic(auto)]
 
 ghost use Rattle.std.specs.Prelude.{◌≡◌, ◌++◌, ◌+◌, ◌≤◌, length};

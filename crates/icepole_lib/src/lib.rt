@@ -1,12 +1,13 @@
 // The static library libicepole_c.a for C: the calls of include/icepole.h, each under its name and with the contract that it has in the crate icepole_c.
-// Sealing and opening are there once for each variant: C calls them by these names.
+// Sealing and opening are there once for each variant, and what they take is lent apart: the C interface has these names and parameters.
 #![tactic(auto)]
 
 ghost use Rattle.std.specs.Prelude.{◌++◌};
 ghost use Rattle.icepole_c.specs.Calls.{SealContract, OpenContract, InPlaceContract};
 ghost use Rattle.icepole_c.specs.Strips.{StartContract, StripContract, EndContract};
 
-use icepole::Variant::{self, Icepole128, Icepole128a, Icepole256a};
+use icepole::Variant;
+use icepole::Variant::{Icepole128, Icepole128a, Icepole256a};
 
 #[unsafe(no_mangle)]
 pub extern "C" fn icepole128_seal(

@@ -2,7 +2,7 @@
 -- Assumes nothing.
 use mathlib.Core.Path.{◌≡◌, sym, ap, ap₂, ◌∙◌}
 use mathlib.Core.List.{[], ◌∷◌, ◌++◌}
-use Prim.Native.Nat.{ℕ, suc, ◌+◌, ◌-◌, ◌%◌, ◌≤◌, ◌<◌}
+use Prim.Native.Nat.{ℕ, ◌+◌, ◌-◌, ◌≤◌, ◌<◌}
 use native.Mathlib.Numerals.{add-one}
 use native.Mathlib.Omega.{arith}
 use lib.Bits.{bit_xor}
@@ -13,7 +13,7 @@ use Rattle.bytes_le.proofs.Laws.{put-put, put_whole}
 use Rattle.blocks.specs.Sealing.{◌⊕₈◌, xor_at, xor_with, absorb, finish}
 use Rattle.blocks.proofs.Steps.{padded}
 use Rattle.blocks.proofs.Xor.{length-xor}
-use Rattle.strips.specs.Machine.{Held, held, make_room, fed, fed_bytes, fill_of}
+use Rattle.strips.specs.Machine.{Held, held, make_room, fed, fed_bytes}
 use Rattle.strips.proofs.Machine.{across, bytes-join, bytes-last, bytes-more, fed-join, fed-last, fed-more, length-fed, room_within}
 
 -- ---- a state that is loaded from its bytes, and its bytes stored where others stood
@@ -131,7 +131,3 @@ module _ (v : Bytes) (fill : ℕ) (m : Bytes) (room : ℕ) (er : fill + room ≡
       ∙ bytes-join 128 (held v fill) (take room m) (drop room m)
       ∙ ap (λ (k : Held). y ++ fed_bytes 128 k (drop room m)) full
       ∙ ap (λ (l : Bytes). y ++ l) ((across 128 (omega arith) b (drop room m) some).1 ∙ ap (λ (k : Held). fed_bytes 128 k (drop room m)) fresh)))
-
--- ---- the fill of a count that is not 0
-pub fill-of-some : (n : ℕ) → (n ≡ 0 → ⊥) → fill_of 128 n ≡ (n - 1) % 128 + 1
-fill-of-some n h = let e : n ≡ suc (n - 1) = omega arith in ap (fill_of 128) e

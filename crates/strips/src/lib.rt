@@ -102,6 +102,7 @@ fn may_end(finished: bool, count: usize, out: usize) -> Result<(), Refusal>
 }
 
 // ---- the bytes
+// That an output has room for the part that is sealed into it stands in each contract: a struct of both slices would be made for these four functions alone.
 // How many bytes of the block that waits came, of so many in all.
 fn fill_of(count: usize) -> usize
     ensures { (result ≡ fill_of block count) × (result ≤ block) }
@@ -246,7 +247,7 @@ fn end_into(state: &mut StripState, out: &mut [u8]) -> Result<usize, Refusal>
 }
 
 // ---- the calls
-// The sealed secret number is written; strips may follow.
+// The sealed secret number is written; strips may follow. Key, nonce, secret number and both parts are lent apart, as the C interface has them.
 pub fn start(
     key: &[u8],
     nonce: &[u8],

