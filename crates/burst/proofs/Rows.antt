@@ -3,11 +3,13 @@
 use mathlib.Core.Bool.{Bool, true, false, cond, not}
 use mathlib.Core.List.{List, [], ◌∷◌}
 use mathlib.Core.Logic.{◌⊎◌, inl, inr}
-use mathlib.Core.Path.{◌≡◌, refl, sym, ap, subst}
+use mathlib.Core.Path.{◌≡◌, refl, sym, ap, subst, ◌∙◌}
 use Prim.Native.Nat.{ℕ, ◌≤◌, ◌<◌, ◌^◌}
 use native.Mathlib.Omega.{arith}
+use borrow.Author.Tests.{eq-eqb}
 use lib.Dec.{eqb}
-use lib.ListN.{length, drop, drop_of_length-le}
+use lib.ListN.{length, drop, get_or, drop_of_length-le}
+use lib.Seq.{drop-cons}
 use Rattle.burst.specs.declared.Edition.{Edition}
 use Rattle.burst.specs.Fields.{camera_width}
 use Rattle.burst.specs.Editions.{edition1, editions, ◌among◌, row_in, numbered, written, camera_held, Known}
@@ -72,6 +74,10 @@ written_known k = known (written k) (written-among k)
 pub search-starts : (n : ℕ) → numbered n ≡ row_in n (drop 0 editions)
 unfolding numbered
 search-starts n = refl
+
+module _ (n i : ℕ) (d : Edition) (h : i < length editions) where
+  pub row_here : (get_or editions i d).number ≡ n → row_in n (drop i editions) ≡ get_or editions i d
+  row_here e = ap (row_in n) (drop-cons editions i d h) ∙ simp (eq-eqb n (get_or editions i d).number (sym e))
 
 pub row-nowhere : (n i : ℕ) → length editions ≤ i → row_in n (drop i editions) ≡ edition1
 row-nowhere n i h = ap (row_in n) (drop_of_length-le editions {i = i} h)

@@ -354,7 +354,8 @@ fn nonce_of(e: Edition, name: Name, shot: Shot) -> [u8; NONCE_BYTES]
 }
 
 // ---- sealed parts: the one place of recorder and reader where the cipher is chosen. Every length is right, so that only a tag can be refused.
-// Edition, key, name and shot go in one by one: each call has a shot and mostly a key of its own, and a struct of them would be made for that call alone.
+// Edition, key, name and shot go in one by one, and each states the bound on the associated data: every call has another shot and other data, so that a struct of
+// them would be made for one call, here and in the reader.
 // Seals a part at the front of out.
 fn seal_part(
     e: Edition,
@@ -440,8 +441,7 @@ fn put_entry(out: &mut [u8], at: usize, x: Entry) -> usize
     requires { at + entry_length ≤ length out.old }
     ensures { (result ≡ at + entry_length) × (out.new ≡ put_bytes out.old at (bytes_of_entry x)) }
 {
-    let s = x.shot;
-    let i = bytes_le::store_le(out, at, COUNT_WIDTH, s.0 as u64);
+    let i = bytes_le::store_le(out, at, COUNT_WIDTH, x.shot.0 as u64);
     let j = bytes_le::store_le(out, i, COUNT_WIDTH, x.zeros as u64);
     let k = bytes_le::store_le(out, j, OFFSET_WIDTH, x.offset as u64);
     bytes_le::store_le(out, k, OFFSET_WIDTH, x.length as u64)
