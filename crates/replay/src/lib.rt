@@ -10,7 +10,7 @@ ghost use Rattle.burst.specs.Recorder.{shot_as, closed_as};
 
 use burst::{Outcome, Recorder, Shot};
 
-// The bytes of a script that begin a call.
+// The bytes of a script that begin a call: the C interface has them as numbers, and `first_call` reads them into the enum.
 const DROP: u8 = 0;
 
 const CLOSE: u8 = 1;
