@@ -4,21 +4,18 @@ use mathlib.Core.Path.{◌≡◌, refl, sym, ap, subst, ◌∙◌}
 use mathlib.Core.Bool.{Bool, true, false, cond}
 use mathlib.Core.List.{[], ◌++◌}
 use Prim.Native.Nat.{ℕ, zero, suc, ◌+◌, ◌*◌, ◌≤◌, ◌<◌}
-use native.Mathlib.Nat.{zero-add}
 use native.Mathlib.Omega.{arith}
 use borrow.Author.Tests.{le-ltb, lt-ltb}
 use lib.Dec.{eqb, ltb}
-use lib.ListN.{length, take, length-append}
+use lib.ListN.{length, length-append}
 use Rattle.bytes_le.specs.Bytes.{Bytes, put_bytes}
-use Rattle.bytes_le.proofs.Laws.{take_put}
 use Rattle.burst.specs.declared.Entry.{Entry}
-use Rattle.burst.specs.Editions.{max_entries}
 use Rattle.reader.specs.declared.Header.{Header}
 use Rattle.reader.specs.Front.{burst_number_in, dropped_in, entries_at, entry_at, front_rules, header_in, index_offset_in, kept_in, taken_in}
 use Rattle.reader.proofs.Rules.{front}
 use Rattle.plain_text.specs.Text.{ascii, field}
 use Rattle.listing.specs.Listing.{Listed, text_room, front_lines, head_lines, list_answer, list_refusal, list_output, listing, shot_line, shot_lines, max_listed}
-use Rattle.plain_text.proofs.Puts.{Put, field-length, put_then}
+use Rattle.plain_text.proofs.Puts.{field-length}
 
 -- ---- lengths
 pub head-length : (b t k d : ℕ) → length (head_lines b t k d) ≤ 109
@@ -65,37 +62,16 @@ shots-length (suc n) position f =
     let h = shot-length e.shot.0 e.offset e.length in
     omega (arith, l, h, i)
 
--- ---- one entry more: what is put from here on is what was to be put
+-- ---- one entry more
 module _ (f : Bytes) (left position : ℕ) where
   pub no-shots : shot_lines (entries_at 0 position f) ≡ []
   unfolding shot_lines entries_at
   no-shots = refl
 
-  -- the lines behind the first
-  abbrev later : Bytes
-  later = shot_lines (entries_at left (position + 12) f)
-
-  more-shots : shot_lines (entries_at (suc left) position f) ≡ line_of (entry_at f position) ++ later
+  pub more-shots : (e : Entry) → e ≡ entry_at f position
+      → line_of e ++ shot_lines (entries_at left (position + 12) f) ≡ shot_lines (entries_at (suc left) position f)
   unfolding shot_lines entries_at
-  more-shots = refl
-
-  module _ (e : Entry) (ee : e ≡ entry_at f position) (at i : ℕ) (o o₁ : Bytes) (h : at + 78 * suc left ≤ length o)
-      (ei : i ≡ at + length (line_of e)) (e₁ : o₁ ≡ put_bytes o at (line_of e)) where
-    both : Put o at (line_of e ++ later) (put_bytes o₁ i later) (i + length later)
-    both =
-        let s = shots-length left (position + 12) f in
-        let l = shot-length e.shot.0 e.offset e.length in
-        put_then o o₁ _ (line_of e) later at i _ (omega (arith, s, l)) (record { index = ei; bytes = e₁ })
-        (record { index = refl; bytes = refl })
-
-    here : line_of e ++ later ≡ shot_lines (entries_at (suc left) position f)
-    here = ap (λ (e : Entry). line_of e ++ later) ee ∙ sym more-shots
-
-    pub shots-bytes : put_bytes o₁ i later ≡ put_bytes o at (shot_lines (entries_at (suc left) position f))
-    shots-bytes = both.bytes ∙ ap (put_bytes o at) here
-
-    pub shots-index : i + length later ≡ at + length (shot_lines (entries_at (suc left) position f))
-    shots-index = both.index ∙ ap (λ (v : Bytes). at + length v) here
+  more-shots e is = ap (λ (e : Entry). line_of e ++ shot_lines (entries_at left (position + 12) f)) is
 
 -- ---- the text, from the tests
 pub long-listing : (f : Bytes) → max_listed < length f → ascii "front too long\n" ≡ listing f
@@ -111,20 +87,10 @@ module _ (f : Bytes) (h : length f ≤ max_listed) where
   unfolding listing
   front-listing e = sym (simp (le-ltb max_listed (length f) h, e))
 
--- head and shots touch
-pub front-put : (f : Bytes) (h : Header) → h ≡ header_in f → (o o₁ o₂ : Bytes) (i r : ℕ) → text_room ≤ length o → h.kept.0 ≤ max_entries
-    → i ≡ length (head_lines h.burst_number h.taken.0 h.kept.0 h.dropped) → o₁ ≡ put_bytes o 0 (head_lines h.burst_number h.taken.0 h.kept.0 h.dropped)
-    → r ≡ i + length (shot_lines (entries_at h.kept.0 h.index f)) → o₂ ≡ put_bytes o₁ i (shot_lines (entries_at h.kept.0 h.index f))
-    → (r ≡ length (front_lines f)) × (o₂ ≡ put_bytes o 0 (front_lines f))
+pub front-made : (f : Bytes) (h : Header) → h ≡ header_in f
+    → head_lines h.burst_number h.taken.0 h.kept.0 h.dropped ++ shot_lines (entries_at h.kept.0 h.index f) ≡ front_lines f
 unfolding front_lines
-front-put f h eh o o₁ o₂ i r ho hk ei e₁ er e₂ =
-    let A : Bytes = head_lines h.burst_number h.taken.0 h.kept.0 h.dropped in
-    let a = head-length h.burst_number h.taken.0 h.kept.0 h.dropped in
-    let s = shots-length h.kept.0 h.index f in
-    let p = put_then o o₁ o₂ A (shot_lines (entries_at h.kept.0 h.index f)) 0 i r (omega (arith, a, s)) (record { index = ei ∙ sym (zero-add _); bytes = e₁ })
-    (record { index = er; bytes = e₂ }) in
-    let e = ap (λ (h : Header). head_lines h.burst_number h.taken.0 h.kept.0 h.dropped ++ shot_lines (entries_at h.kept.0 h.index f)) eh in
-    (p.index ∙ zero-add _ ∙ ap length e, p.bytes ∙ ap (put_bytes o 0) e)
+front-made f h is = ap (λ (h : Header). head_lines h.burst_number h.taken.0 h.kept.0 h.dropped ++ shot_lines (entries_at h.kept.0 h.index f)) is
 
 -- ---- every text has room
 pub listing-length : (f : Bytes) → length (listing f) ≤ text_room
@@ -147,14 +113,13 @@ module _ (f o : Bytes) where
   unfolding list_answer list_output list_refusal
   list-refused h = let z = lt-ltb (length o) (length (listing f)) h in (sym (simp z), sym (simp z))
 
-  -- the text was put at the front of t, and from there into the output
-  pub list_done : (n : ℕ) (t t' o' : Bytes) → n ≡ length (listing f) → t' ≡ put_bytes t 0 (listing f) → n ≤ length o → o' ≡ put_bytes o 0 (take n t')
+  pub list_done : (n : ℕ) (t o' : Bytes) → t ≡ listing f → n ≡ length t → n ≤ length o → o' ≡ put_bytes o 0 t
       → (record { refusal = 0; mark = 0; length = n } ≡ list_answer f o) × (o' ≡ list_output f o)
   unfolding list_answer list_output list_refusal
-  list_done n t t' o' en et h eo =
-      let z = le-ltb (length o) (length (listing f)) (omega arith) in
-      let e = ap (take n) et ∙ take_put t 0 (listing f) n (en ∙ sym (zero-add _)) (omega arith) in
-      (ap (λ (n : ℕ). record { refusal = 0; mark = 0; length = n }) en ∙ sym (simp z), eo ∙ ap (put_bytes o 0) e ∙ sym (simp z))
+  list_done n t o' et en h eo =
+      let m = en ∙ ap length et in
+      let z = le-ltb (length o) (length (listing f)) (omega (arith, m, h)) in
+      (ap (λ (n : ℕ). record { refusal = 0; mark = 0; length = n }) m ∙ sym (simp z), eo ∙ ap (put_bytes o 0) et ∙ sym (simp z))
 
   pub told-length : (r : Listed) → r ≡ list_answer f o → r.length ≤ text_room
   unfolding list_answer

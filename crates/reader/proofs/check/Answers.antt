@@ -1,6 +1,6 @@
 -- `reader::check` meets its contract.
 -- Assumes nothing.
-use mathlib.Core.Path.{◌≡◌, refl, sym, ap, ap₂, ◌∙◌}
+use mathlib.Core.Path.{refl, sym, ap, ap₂, ◌∙◌}
 use native.Mathlib.Omega.{arith}
 use Rattle.refusals.proofs.Laws.{passed-on, positive}
 use Rattle.reader.specs.Reader.{not_checked, summary_as, check_answer}

@@ -1,9 +1,7 @@
 -- `reader::read_entries` meets its contract. The loop's invariant: the first i entries are read.
 -- Assumes nothing.
-use mathlib.Core.Path.{refl, sym, ap, ◌∙◌}
-use Prim.Native.Nat.{ℕ}
+use mathlib.Core.Path.{refl}
 use native.Mathlib.Omega.{arith}
-use lib.ListN.{take}
 use Rattle.reader.specs.Front.{entries_at}
 use Rattle.reader.proofs.Rules.{read-turn}
 use Rattle.reader.proofs.read_entries.Goals as goal

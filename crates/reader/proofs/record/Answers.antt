@@ -5,12 +5,10 @@ use Prim.Native.Nat.{ℕ, ◌+◌, ◌-◌}
 use native.Mathlib.Omega.{arith}
 use native.Mathlib.Nat.{add_comm, add-zero}
 use lib.ListN.{take, drop}
-use Rattle.std.specs.Prelude.{Result, Ok}
-use Rattle.refusals.specs.declared.Refusal.{Refusal}
+use Rattle.std.specs.Prelude.{Ok}
 use Rattle.refusals.specs.Numbers.{number_of}
 use Rattle.refusals.proofs.Laws.{positive}
 use Rattle.burst.specs.declared.Entry.{Entry}
-use Rattle.reader.specs.Front.{entry_at, position_of}
 use Rattle.reader.specs.Reader.{position_as, locate_answer}
 use Rattle.reader.proofs.Answers.{located-refusal, located-mark, located-found, located-position, located-entry, record-refused, record-done}
 use Rattle.reader.proofs.record.Goals as goal
