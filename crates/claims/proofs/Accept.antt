@@ -28,8 +28,8 @@ use Rattle.bits.proofs.Cases.{and-true}
 use Rattle.burst.proofs.Rules.{index-used, not-holds}
 use Rattle.burst.proofs.Numbers.{keep-0, drop-0, close-0, begin-0}
 use Rattle.burst.proofs.Parts.{part-sealed, length-mark, length-body, mark-bytes, body_bytes}
-use Rattle.reader.specs.declared.Checked.{Checked}
-use Rattle.reader.specs.declared.Verdict.TheVariants.{Agree}
+use Rattle.reader.specs.Reader.{Checked}
+use Rattle.reader.specs.Verdicts.{Agree}
 use Rattle.reader.specs.Front.{edition_in, burst_number_in, camera_of, camera_in, name_in, all_zero, rest_rules, taken_in, kept_in, dropped_in, index_offset_in, entry_at, entries_at}
 use Rattle.reader.specs.Reader.{closing_part, record_part, record_parts, agrees, mark_in, body_in, verdict_on, check_answer}
 use Rattle.reader.proofs.Rules.{Front, entries-obey, entries-end}

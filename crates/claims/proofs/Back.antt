@@ -25,9 +25,9 @@ use Rattle.bits.proofs.Cases.{zero_or_not}
 use Rattle.burst.proofs.Rows.{known, written-among, camera-held}
 use Rattle.burst.proofs.Numbers.{begins}
 use Rattle.burst.proofs.Parts.{part-agrees, part-mark}
-use Rattle.reader.specs.declared.Checked.{Checked}
-use Rattle.reader.specs.declared.Verdict.TheVariants.{Agree}
-use Rattle.reader.specs.declared.Fetched.{Fetched}
+use Rattle.reader.specs.Reader.{Checked}
+use Rattle.reader.specs.Verdicts.{Agree}
+use Rattle.reader.specs.Reader.{Fetched}
 use Rattle.reader.specs.Front.{edition_in, name_in, header_in, taken_in, kept_in, index_offset_in, entry_at, entries_at, position_of, front_rules}
 use Rattle.reader.specs.Reader.{closing_part, record_parts, sealed_in, agrees, mark_in, verdict_on, check_refusal, check_mark, check_answer, record_refusal}
 use Rattle.reader.specs.Reader.{record_offset, record_bytes_in, not_checked, not_fetched, fetch_refusal, fetch_answer, fetch_output, fetched_as}

@@ -18,7 +18,7 @@ use Rattle.trace.specs.Plain.{Firing, kept, gap, Plain, total_of, file_of, Call,
 use Rattle.trace.specs.Trace.{run_answers}
 use Rattle.trace.specs.Agreement.{edition_for}
 use Rattle.trace.proofs.Shots.{Valid}
-use Rattle.sizing.specs.declared.CardLine.{CardLine}
+use Rattle.sizing.specs.Cards.{CardLine}
 use Rattle.sizing.specs.Sizing.{lengths_of, planned_shot, planned_burst, sized_edition, too_long, size_answer}
 use Rattle.sizing.specs.Plans.{planned_by, OnlyShots, Beginnable, carried_out, AllDone}
 use Rattle.sizing.specs.Cards.{full_length, card_number, card_answer}

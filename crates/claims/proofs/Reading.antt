@@ -24,7 +24,7 @@ use Rattle.burst.proofs.Puts.{length-header}
 use Rattle.burst.proofs.Parts.{part-agrees, part-mark, part_body_lem}
 use Rattle.reader.specs.Front.{edition_in, camera_of, name_in, all_zero, zeros_of, rest_rules, edition_number_in, taken_in, kept_in, dropped_in}
 use Rattle.reader.specs.Front.{picture_offset_in, index_offset_in, closing_offset_in, total_in, entry_at, entries_at}
-use Rattle.reader.specs.declared.Verdict.TheVariants.{Agree}
+use Rattle.reader.specs.Verdicts.{Agree}
 use Rattle.reader.specs.Reader.{Part, record_part, record_parts, agrees, mark_in, body_in, sealed_in, verdict_on}
 use Rattle.reader.proofs.Parts.{parts-end, parts_next}
 use Rattle.reader.proofs.Fields.{entry-same}

@@ -19,7 +19,7 @@ use Rattle.trace.specs.Seals.{burst_calls}
 use Rattle.trace.specs.Agreement.{edition_for}
 use Rattle.trace.proofs.Shots.{Valid}
 use Rattle.trace.proofs.Seals.{file-of-seals, length-file, burst-p12, burst-p6}
-use Rattle.sizing.specs.declared.Size.{Size}
+use Rattle.sizing.specs.Sizing.{Size}
 use Rattle.sizing.specs.Sizing.{lengths_of, sized_edition, size_number, size_answer}
 use Rattle.sizing.specs.Plans.{carried_out}
 use Rattle.sizing.proofs.Numbers.{size-0}

@@ -14,7 +14,7 @@ use Rattle.bytes_le.proofs.Laws.{put_front, unle-8}
 use Rattle.icepole.specs.Answers.{unless}
 use Rattle.blocks.specs.Lengths.{max_length}
 use Rattle.strips.specs.declared.StripState.{StripState}
-use Rattle.strips.specs.declared.StripAnswer.{StripAnswer}
+use Rattle.strips.specs.Answers.{StripAnswer}
 use Rattle.strips.specs.Answers.{end_answer, end_output, end_refusal, held_in, not_started, start_answer, start_output, started, strip_answer, strip_output}
 use Rattle.strips.specs.Answers.{strip_refusal}
 use Rattle.strips.proofs.Machine.{length-fed-state}

@@ -21,7 +21,7 @@ use Rattle.icepole.proofs.Numbers.{SealFits}
 use Rattle.blocks.proofs.Opening.{length-keyed, length-ready}
 use Rattle.blocks.proofs.Xor.{length-xor}
 use Rattle.strips.specs.declared.StripState.{StripState}
-use Rattle.strips.specs.declared.StripAnswer.{StripAnswer}
+use Rattle.strips.specs.Answers.{StripAnswer}
 use Rattle.strips.specs.Machine.{Held, held, ended, fed, fed_bytes, fill_of}
 use Rattle.strips.specs.Answers.{after_end, after_strip, answered, end_answer, end_number, end_output, end_refusal, held_in, not_started, start_answer, start_output}
 use Rattle.strips.specs.Answers.{start_refusal, started, strip_answer, strip_number, strip_output, strip_refusal}

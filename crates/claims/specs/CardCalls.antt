@@ -4,7 +4,7 @@
 --   sizes_unmarked  sizing up (N4) answers no mark either
 -- Assumes nothing.
 use Rattle.std.specs.Prelude.{◌⊎◌, ◌≢◌, List, [], ◌∷◌, ◌≡◌, ℕ, ◌<◌}
-use Rattle.sizing.specs.declared.CardLine.{CardLine}
+use Rattle.sizing.specs.Cards.{CardLine}
 use Rattle.sizing.specs.Cards.{card_answer}
 use Rattle.sizing.specs.Sizing.{size_answer}
 use Rattle.claims.specs.Demand1.{◌on◌, FirstOf}

@@ -25,7 +25,7 @@ use Rattle.burst.specs.Layout.{Identity}
 use Rattle.trace.specs.Plain.{Firing, kept, gap, Plain, file_of, Call, CallList, plain_of}
 use Rattle.trace.specs.Trace.{run_answers}
 use Rattle.trace.specs.Agreement.{Reached, edition_for}
-use Rattle.sizing.specs.declared.CardLine.{CardLine}
+use Rattle.sizing.specs.Cards.{CardLine}
 use Rattle.sizing.specs.Sizing.{planned_burst, size_answer}
 use Rattle.sizing.specs.Plans.{planned_by, OnlyShots, Beginnable, carried_out, AllDone}
 use Rattle.sizing.specs.Cards.{full_length, card_answer}

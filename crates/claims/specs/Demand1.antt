@@ -18,7 +18,7 @@ use Rattle.icepole.specs.Variants.{sizes}
 use Rattle.blocks.specs.Lengths.{tag_length, max_secret, max_length}
 use Rattle.icepole.specs.Answers.{tag_agrees, seal_number, seal_refusal, seal_answer, seal_output, open_number, fits_output, open_answer, open_output}
 use Rattle.strips.specs.declared.StripState.{StripState}
-use Rattle.strips.specs.declared.StripAnswer.{StripAnswer}
+use Rattle.strips.specs.Answers.{StripAnswer}
 use Rattle.strips.specs.Answers.{start_number, not_started, start_answer, start_output, strip_answer, strip_output, end_answer, end_output}
 use Rattle.icepole_c.specs.Calls.{info_length, open_call_refusal, open_call_output, open_call_info}
 use Rattle.icepole_c.specs.Strips.{strip_state_length, strip_state_bytes, strip_state_in, start_call_refusal, start_call_output, start_call_state}
@@ -34,10 +34,10 @@ use Rattle.trace.specs.Trace.{next_recorder, next_buffer, answer_to}
 use Rattle.reader.specs.Front.{kept_in, entry_at, position_of, front_rules}
 use Rattle.reader.specs.Reader.{closing_part, record_part, agrees, not_checked, not_fetched, check_mark, check_answer}
 use Rattle.reader.specs.Reader.{record_refusal, record_offset, record_bytes_in, fetch_answer, fetch_output}
-use Rattle.listing.specs.declared.Listed.{Listed}
+use Rattle.listing.specs.Listing.{Listed}
 use Rattle.listing.specs.Listing.{listing, text_room, list_refusal, list_answer, list_output}
 use Rattle.burst_c.specs.Calls.{check_info_length, fetch_info_length, check_call_refusal, check_call_info, fetch_call_refusal, fetch_call_output, fetch_call_info}
-use Rattle.sizing.specs.declared.Size.{Size}
+use Rattle.sizing.specs.Sizing.{Size}
 use Rattle.sizing.specs.Sizing.{size_answer}
 use Rattle.round_log.specs.RoundLog.{verdict}
 use Rattle.permutation.specs.State.{State}

@@ -23,7 +23,7 @@ use Rattle.burst.specs.Numbers.{used_after}
 use Rattle.trace.specs.Plain.{Firing, kept, gap, pictures, gaps, Plain, file_of, Call, keep_shot, drop_shot, close_burst, CallList, Answer, plain_of, plain_answers, total_of}
 use Rattle.trace.specs.Trace.{run_answers, run_buffer}
 use Rattle.trace.specs.Agreement.{Reached, edition_for, Agreement}
-use Rattle.reader.specs.declared.Checked.{Checked}
+use Rattle.reader.specs.Reader.{Checked}
 use Rattle.reader.specs.Front.{edition_in}
 use Rattle.reader.specs.Reader.{not_checked, not_fetched, check_answer, fetch_answer, fetch_output, record_refusal, record_offset, record_bytes_in}
 

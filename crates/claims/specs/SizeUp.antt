@@ -29,7 +29,7 @@ use Rattle.trace.specs.Plain.{Firing, kept, gap, pictures, Plain, file_of, Call,
 use Rattle.trace.specs.Seals.{burst_calls, burst_blocks, FileOfSeals}
 use Rattle.trace.specs.Trace.{run_answers}
 use Rattle.trace.specs.Agreement.{Reached, edition_for}
-use Rattle.sizing.specs.declared.Size.{Size}
+use Rattle.sizing.specs.Sizing.{Size}
 use Rattle.sizing.specs.Sizing.{lengths_of, size_answer}
 use Rattle.sizing.specs.Plans.{planned_by, OnlyShots, Beginnable, carried_out, AllDone}
 

@@ -22,7 +22,7 @@ use Rattle.blocks.specs.Lengths.{tag_length, max_length}
 use Rattle.blocks.specs.Sealing.{sealed}
 use Rattle.icepole.specs.Answers.{unless, given}
 use Rattle.strips.specs.declared.StripState.{StripState}
-use Rattle.strips.specs.declared.StripAnswer.{StripAnswer}
+use Rattle.strips.specs.Answers.{StripAnswer}
 use Rattle.strips.specs.Answers.{start_answer, start_output, strip_answer, strip_output, end_answer, end_output, start_refusal, strip_number, end_number}
 use Rattle.icepole_c.specs.Strips.{strip_state_length, strip_state_bytes, strip_state_in, start_call_refusal, start_call_output, start_call_state}
 use Rattle.icepole_c.specs.Strips.{strip_call_refusal, strip_call_output, strip_call_state, end_call_refusal, end_call_output, end_call_state}
