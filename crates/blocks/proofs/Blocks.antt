@@ -13,7 +13,8 @@ use Rattle.bits.proofs.Cases.{le-or-lt}
 use Rattle.state_bytes.proofs.Lengths.{length-permuted}
 use Rattle.blocks.specs.Sealing.{◌⊕₈◌, absorb, absorb_associated, absorb_blocks, absorb_message, blocks_before, decrypt, decrypt_blocks, encrypt, encrypt_blocks, pad, xor_with}
 use Rattle.blocks.specs.Ways.{put_blocks, put_by, taken_blocks, taken_by}
-use Rattle.blocks.proofs.Xor.{length-xor, xor-twice}
+use Rattle.blocks.specs.WayLaws.{length-xor}
+use Rattle.blocks.proofs.Xor.{xor-twice}
 
 pub length-absorb : (v b : Bytes) (f : ℕ) → length (absorb v b f) ≡ 160
 unfolding absorb

@@ -17,7 +17,8 @@ use Rattle.blocks.specs.Sealing.{◌⊕₈◌, absorb, absorb_message, decrypt, 
 use Rattle.blocks.specs.Sealing.{secret_of, secret_part, tag, tag_part}
 use Rattle.blocks.specs.declared.Sizes.{Sizes}
 use Rattle.blocks.proofs.Blocks.{decrypt-encrypt, encrypt-decrypt, length-associated, length-decrypt, length-encrypt, length-message}
-use Rattle.blocks.proofs.Xor.{length-xor, xor-twice}
+use Rattle.blocks.specs.WayLaws.{length-xor}
+use Rattle.blocks.proofs.Xor.{xor-twice}
 
 cond-true : {A : Type 0} (b : Bool) (x : Option A) (y : A) → cond b x none ≡ some y → (b ≡ true) × (x ≡ some y)
 cond-true true x y e = (refl, e)

@@ -16,7 +16,7 @@ use Rattle.blocks.specs.Ways.{Puts, Room, Takes, put_by, taken_by}
 use Rattle.blocks.proofs.Blocks.{length-put, put-last, put-more, taken-last, taken-more}
 use Rattle.blocks.proofs.Full.{room_left, unread}
 use Rattle.blocks.proofs.Steps.{padded}
-use Rattle.blocks.proofs.Xor.{length-xor}
+use Rattle.blocks.specs.WayLaws.{length-xor}
 
 -- all that is left of d
 pub rest : (d : Bytes) (at k : ℕ) → k ≡ length d - at → take k (drop at d) ≡ drop at d

@@ -17,7 +17,7 @@ use Rattle.blocks.specs.declared.Sizes.{Sizes}
 use Rattle.blocks.proofs.Blocks.{length-encrypt}
 use Rattle.blocks.proofs.Opening.{length-keyed, length-ready, length-tag}
 use Rattle.blocks.proofs.Steps.{padded}
-use Rattle.blocks.proofs.Xor.{length-xor}
+use Rattle.blocks.specs.WayLaws.{length-xor}
 
 -- a block, by its words
 pub whole : (q : Sizes) → Bounded q → 8 * (q.block / 8) ≡ q.block

@@ -9,7 +9,7 @@ use lib.Bits.{bit_xor}
 use Rattle.bytes_le.specs.Bytes.{Bytes}
 use Rattle.bits.proofs.Tests.{number-xor-cancel}
 use Rattle.blocks.specs.Sealing.{◌⊕₈◌, xor_at, xor_with}
-pub use Rattle.blocks.specs.WayLaws.{length-xor, xor-none}
+use Rattle.blocks.specs.WayLaws.{xor-none}
 
 pub xor-twice : (v b : Bytes) → length b ≤ length v → v ⊕₈ (v ⊕₈ b) ≡ b
 xor-twice [] [] h = refl

@@ -19,7 +19,7 @@ use Rattle.icepole.specs.Answers.{unless}
 use Rattle.blocks.specs.Lengths.{max_length}
 use Rattle.icepole.proofs.Numbers.{SealFits}
 use Rattle.blocks.proofs.Opening.{length-keyed, length-ready}
-use Rattle.blocks.proofs.Xor.{length-xor}
+use Rattle.blocks.specs.WayLaws.{length-xor}
 use Rattle.strips.specs.declared.StripState.{StripState}
 use Rattle.strips.specs.Answers.{StripAnswer}
 use Rattle.strips.specs.Machine.{Held, held, ended, fed, fed_bytes, fill_of}

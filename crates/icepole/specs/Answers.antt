@@ -1,6 +1,6 @@
 -- What sealing, verifying and opening answer and leave in the lent buffer, for good and bad calls (01, "Turned down, by example").
 -- Assumes nothing.
-use Rattle.std.specs.Prelude.{Bool, cond, not, ◌||◌, List, [], ◌∷◌, ℕ, ◌+◌, ◌-◌, eqb, leb, ltb, length, replicate, Result, Ok, Err}
+use Rattle.std.specs.Prelude.{Bool, cond, not, ◌||◌, List, [], ◌∷◌, ℕ, ◌+◌, ◌-◌, eqb, leb, ltb, length, replicate, Result}
 use Rattle.refusals.specs.declared.Refusal.{Refusal}
 use Rattle.refusals.specs.Numbers.{number_of, mark_of, value_or}
 use Rattle.bytes_le.specs.Bytes.{Bytes, put_bytes, same}

@@ -1,6 +1,6 @@
 -- A list of calls as bytes, and what performing it leaves: demand 3's first sentence about running code.
 -- Assumes nothing.
-use Rattle.std.specs.Prelude.{Bool, true, false, cond, List, [], ◌∷◌, ◌++◌, ◌≡◌, ℕ, zero, suc, ◌+◌, ◌-◌, ◌/◌, ◌≤◌, ◌<◌, eqb, ltb, length, take, drop, Some, None}
+use Rattle.std.specs.Prelude.{Bool, false, cond, List, [], ◌∷◌, ◌++◌, ◌≡◌, ℕ, zero, suc, ◌+◌, ◌-◌, ◌/◌, ◌≤◌, ◌<◌, eqb, ltb, length, take, drop, Some, None}
 use Rattle.std.proofs.Math.Option.{Option, some, none}
 use Rattle.bytes_le.specs.Bytes.{Bytes, put_bytes, le, le_at}
 use Rattle.burst.specs.Layout.{Identity}

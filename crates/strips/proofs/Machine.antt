@@ -15,7 +15,8 @@ use lib.Seq.{length-take-le}
 use Rattle.bytes_le.specs.Bytes.{Bytes}
 use Rattle.state_bytes.proofs.Lengths.{length-permuted}
 use Rattle.blocks.specs.Sealing.{◌⊕₈◌, xor_at, xor_with, absorb, finish, absorb_message, encrypt, tag}
-use Rattle.blocks.proofs.Xor.{get_or-xor-with, xor-none, xor-snoc, xor-with-snoc}
+use Rattle.blocks.specs.WayLaws.{xor-none}
+use Rattle.blocks.proofs.Xor.{get_or-xor-with, xor-snoc, xor-with-snoc}
 use Rattle.blocks.proofs.Steps.{padded}
 use Rattle.blocks.proofs.Blocks.{by_blocks, encrypt-last, encrypt-more, length-absorb, message-last, message-more}
 use Rattle.strips.specs.Machine.{Held, held, make_room, step, cipher_byte, fed, fed_bytes, fill_of, ended}

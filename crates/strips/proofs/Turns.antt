@@ -12,7 +12,7 @@ use Rattle.bytes_le.specs.Bytes.{Bytes, put_bytes}
 use Rattle.bytes_le.proofs.Laws.{put-put, put_whole}
 use Rattle.blocks.specs.Sealing.{◌⊕₈◌, xor_at, xor_with, absorb, finish}
 use Rattle.blocks.proofs.Steps.{padded}
-use Rattle.blocks.proofs.Xor.{length-xor}
+use Rattle.blocks.specs.WayLaws.{length-xor}
 use Rattle.strips.specs.Machine.{Held, held, make_room, fed, fed_bytes}
 use Rattle.strips.proofs.Machine.{across, bytes-join, bytes-last, bytes-more, fed-join, fed-last, fed-more, length-fed, room_within}
 

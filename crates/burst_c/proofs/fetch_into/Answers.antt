@@ -1,11 +1,7 @@
 -- `burst_c::fetch_into` meets its contract: by what locate and fetch answer for the caller's place.
 -- Assumes nothing.
-use mathlib.Core.Path.{◌≡◌, refl, sym, ap, ◌∙◌}
-use Prim.Native.Nat.{ℕ}
+use mathlib.Core.Path.{refl, sym, ap, ◌∙◌}
 use native.Mathlib.Omega.{arith}
-use Rattle.std.specs.Prelude.{Result}
-use Rattle.bytes_le.specs.Bytes.{Bytes}
-use Rattle.refusals.specs.declared.Refusal.{Refusal}
 use Rattle.refusals.specs.Numbers.{number_of, mark_of}
 use Rattle.refusals.proofs.Laws.{not-done, passed-on}
 use Rattle.reader.proofs.Answers.{located-refusal, located-mark, fetched-mark}

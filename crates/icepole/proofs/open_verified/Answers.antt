@@ -1,7 +1,6 @@
 -- `icepole::open_verified` meets its contract: what `may_open` turns down is the answer; else the tag decides.
 -- Assumes nothing.
 use mathlib.Core.Path.{sym, ap, ◌∙◌}
-use native.Mathlib.Omega.{arith}
 use Rattle.refusals.proofs.Laws.{passed-on}
 use Rattle.icepole.specs.Answers.{opened_as}
 use Rattle.icepole.proofs.Answers.{agrees-by, open-differs, open_done, open-refused}

@@ -1,7 +1,6 @@
 -- `icepole::seal` meets its contract: by what `may_seal` answers, which where nothing is turned down tells all that `seal_into` wants.
 -- Assumes nothing.
 use mathlib.Core.Path.{sym, ap, ◌∙◌}
-use native.Mathlib.Omega.{arith}
 use Rattle.refusals.proofs.Laws.{passed-on}
 use Rattle.icepole.specs.Answers.{sealed_as}
 use Rattle.icepole.proofs.Answers.{seal-done, seal-refused}
