@@ -1,5 +1,5 @@
 #!/usr/bin/env python3
-"""Lists the candidates of docs/DESIGN-PASS.md, point by point, in the sources of a commit: tools/design_places.py [COMMIT]. Without one, those of the checkout."""
+"""Lists the candidates of docs/DESIGN-PASS.md, point by point, in the sources of a commit: tools/design_places.py [COMMIT]. Without one, of HEAD."""
 import collections
 import io
 import os
@@ -11,8 +11,6 @@ import tempfile
 
 
 def sources(commit):
-    if commit is None:
-        return "crates"
     data = subprocess.run(["git", "archive", commit, "crates"], check=True, capture_output=True).stdout
     folder = tempfile.mkdtemp()
     tarfile.open(fileobj=io.BytesIO(data)).extractall(folder)
@@ -100,7 +98,7 @@ def proofs(root):
     print(f"8, proofs: {count} lines, {answers} answers, about {lemmas} lemmas")
 
 
-root = sources(sys.argv[1] if len(sys.argv) > 1 else None)
+root = sources(sys.argv[1] if len(sys.argv) > 1 else "HEAD")
 grep("1a, enums", root, r"^\s*(pub )?enum ")
 grep("1b, a refusal number or a flag with values beside it", root, r"\b(refusal|more|whole|finished|closed): (u32|bool),")
 grep("1c, functions that answer a refusal number", root, r"fn [a-z_]*(number|refusal)[a-z_]*\(|fn (strip_in|put_info|run_rounds|seal_call|open_call|open_in_place_call)\(")
