@@ -3,8 +3,8 @@
 
 ghost use Rattle.std.specs.Prelude.{◌≡◌, ◌==◌, true, ◌+◌, ◌*◌, ◌≤◌, ◌<◌, [], ◌∷◌, length};
 ghost use Rattle.std.specs.List.{list_all};
-ghost use Rattle.bytes_le.specs.Bytes.{put_bytes};
-ghost use Rattle.burst.specs.Fields.{fields_length, entry_length};
+ghost use Rattle.bytes_le.specs.Bytes.{le_at, put_bytes};
+ghost use Rattle.burst.specs.Fields.{count_width, offset_width, fields_length, entry_length};
 ghost use Rattle.burst.specs.Editions.{max_entries, max_header, Known};
 ghost use Rattle.burst.specs.Parts.{seal_length, key_length};
 ghost use Rattle.burst.specs.Layout.{max_picture};
@@ -44,20 +44,31 @@ pub struct Picture {
     pub length: u32,
 }
 
+// A count of the file, and an offset or a length of it.
+fn count_at(f: &[u8], at: usize) -> u16
+    requires { at + count_width ≤ length f.now }
+    ensures { result ≡ le_at count_width f.now at }
+{
+    bytes_le::load_le(f, at, COUNT_WIDTH) as u16
+}
+
+fn offset_at(f: &[u8], at: usize) -> u32
+    requires { at + offset_width ≤ length f.now }
+    ensures { result ≡ le_at offset_width f.now at }
+{
+    bytes_le::load_le(f, at, OFFSET_WIDTH) as u32
+}
+
 // The entry that stands at a position of the file.
 pub fn entry_at(f: &[u8], position: usize) -> Entry
     requires { position + entry_length ≤ length f.now }
     ensures { result ≡ entry_at f.now position }
 {
-    let shot = bytes_le::load_le(f, position, COUNT_WIDTH);
-    let zeros = bytes_le::load_le(f, position + ZEROS_AT, COUNT_WIDTH);
-    let offset = bytes_le::load_le(f, position + RECORD_OFFSET_AT, OFFSET_WIDTH);
-    let count = bytes_le::load_le(f, position + PICTURE_LENGTH_AT, OFFSET_WIDTH);
     Entry {
-        shot: Shot(shot as u16),
-        zeros: zeros as u16,
-        offset: offset as u32,
-        length: count as u32,
+        shot: Shot(count_at(f, position)),
+        zeros: count_at(f, position + ZEROS_AT),
+        offset: offset_at(f, position + RECORD_OFFSET_AT),
+        length: offset_at(f, position + PICTURE_LENGTH_AT),
     }
 }
 
@@ -101,25 +112,16 @@ pub fn header_in(f: &[u8]) -> Header
     requires { fields_length ≤ length f.now }
     ensures { result ≡ header_in f.now }
 {
-    let edition = bytes_le::load_le(f, EDITION_AT, COUNT_WIDTH);
-    let taken = bytes_le::load_le(f, TAKEN_AT, COUNT_WIDTH);
-    let kept = bytes_le::load_le(f, KEPT_AT, COUNT_WIDTH);
-    let dropped = bytes_le::load_le(f, DROPPED_AT, COUNT_WIDTH);
-    let burst_number = bytes_le::load_le(f, BURST_NUMBER_AT, BURST_NUMBER_WIDTH);
-    let pictures = bytes_le::load_le(f, PICTURE_OFFSET_AT, OFFSET_WIDTH);
-    let index = bytes_le::load_le(f, INDEX_OFFSET_AT, OFFSET_WIDTH);
-    let closing = bytes_le::load_le(f, CLOSING_OFFSET_AT, OFFSET_WIDTH);
-    let total = bytes_le::load_le(f, TOTAL_AT, OFFSET_WIDTH);
     Header {
-        edition: edition as u16,
-        taken: Shot(taken as u16),
-        kept: Place(kept as u16),
-        dropped: dropped as u16,
-        burst_number,
-        pictures: pictures as u32,
-        index: index as u32,
-        closing: closing as u32,
-        total: total as u32,
+        edition: count_at(f, EDITION_AT),
+        taken: Shot(count_at(f, TAKEN_AT)),
+        kept: Place(count_at(f, KEPT_AT)),
+        dropped: count_at(f, DROPPED_AT),
+        burst_number: bytes_le::load_le(f, BURST_NUMBER_AT, BURST_NUMBER_WIDTH),
+        pictures: offset_at(f, PICTURE_OFFSET_AT),
+        index: offset_at(f, INDEX_OFFSET_AT),
+        closing: offset_at(f, CLOSING_OFFSET_AT),
+        total: offset_at(f, TOTAL_AT),
     }
 }
 
