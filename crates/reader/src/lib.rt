@@ -1,7 +1,7 @@
 // The reader of bursts (01, "Reader"; 02, N1): check, fetch by place, and the sealed record of a place.
 #![tactic(auto)]
 
-ghost use Rattle.std.specs.Prelude.{◌≡◌, ◌==◌, true, ◌+◌, ◌*◌, ◌≤◌, ◌<◌, [], ◌∷◌, length};
+ghost use Rattle.std.specs.Prelude.{◌≡◌, ◌==◌, true, ◌+◌, ◌*◌, ◌≤◌, ◌<◌, [], ◌∷◌, length, take, drop};
 ghost use Rattle.std.specs.List.{list_all};
 ghost use Rattle.bytes_le.specs.Bytes.{le_at, put_bytes};
 ghost use Rattle.burst.specs.Fields.{count_width, offset_width, fields_length, entry_length};
@@ -70,6 +70,17 @@ pub fn entry_at(f: &[u8], position: usize) -> Entry
         offset: offset_at(f, position + RECORD_OFFSET_AT),
         length: offset_at(f, position + PICTURE_LENGTH_AT),
     }
+}
+
+// The sealed record of an entry, as that part of the file.
+fn sealed_of<'a>(f: &'a [u8], x: Entry) -> &'a [u8]
+    requires { x.offset + (x.length + seal_length) ≤ length f.now }
+    ensures { (result.now ≡ take (x.length + seal_length) (drop x.offset f.now)) ×
+        (result.ref_ptr.0 ≡ f.entry.ref_ptr.0) × (result.ref_ptr.1 ≡ f.entry.ref_ptr.1 + x.offset) }
+{
+    let start = x.offset as usize;
+    let end = start + (x.length as usize + SEAL_LENGTH as usize);
+    &f[start..end]
 }
 
 // Reads the entries from a position of the file on, as many as are wanted.
@@ -264,8 +275,6 @@ impl<'a> Reading<'a> {
         let position = self.position(place);
         let x = entry_at(f, position);
         let next = position + ENTRY_LENGTH;
-        let start = x.offset as usize;
-        let end = start + (x.length as usize + SEAL_LENGTH as usize);
         let answer = burst::verify_part(
             self.e,
             self.key,
@@ -273,7 +282,7 @@ impl<'a> Reading<'a> {
             x.shot,
             &f[position..next],
             &[],
-            &f[start..end],
+            sealed_of(f, x),
         );
         answer.map_err(|_| Refusal::TagDiffers(x.shot.0))?;
         Ok(())
@@ -302,8 +311,6 @@ impl<'a> Reading<'a> {
         let position = self.position(place);
         let x = entry_at(f, position);
         let next = position + ENTRY_LENGTH;
-        let start = x.offset as usize;
-        let end = start + (x.length as usize + SEAL_LENGTH as usize);
         let got = burst::open_part(
             self.e,
             self.key,
@@ -311,7 +318,7 @@ impl<'a> Reading<'a> {
             x.shot,
             &f[position..next],
             &[],
-            &f[start..end],
+            sealed_of(f, x),
             out,
         )?;
         let stamp = got.secret;
@@ -409,8 +416,5 @@ pub fn record<'a>(
     let Ok(position) = located else {
         return &f[..0];
     };
-    let x = entry_at(f, position);
-    let start = x.offset as usize;
-    let end = start + (x.length as usize + SEAL_LENGTH as usize);
-    &f[start..end]
+    sealed_of(f, entry_at(f, position))
 }
