@@ -9,7 +9,6 @@ fn main(rt: HostRuntime) -> io::Result<()> {
     let mut file = [0u8; MAX_LISTED + 1];
     let n = input::read_full(&mut rt.reader(), &mut file)?;
     let mut text = [0u8; TEXT_ROOM];
-    let r = listing::list_front(&file[..n], &mut text);
-    let count = r.length;
+    let count = listing::list_front(&file[..n], &mut text).unwrap_or(0);
     rt.write_all(&text[..count])
 }

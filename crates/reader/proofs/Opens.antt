@@ -71,23 +71,19 @@ body-told key f p out h = part-output (edition_in f) key (name_in f) p.shot p.as
 -- ---- the slices that are lent for an entry at a position and its record
 pub record Lent (f : Bytes) (position : ℕ) (x : Entry) : Type 0 where
   pub entry : take (position + entry_length - position) (drop position f) ≡ take entry_length (drop position f)
-  pub sealed : take (x.offset + (x.length + seal_length) - x.offset) (drop x.offset f) ≡ take (x.length + seal_length) (drop x.offset f)
   pub entry_length_lem : length (take (position + entry_length - position) (drop position f)) ≡ entry_length
-  pub sealed_length : length (take (x.offset + (x.length + seal_length) - x.offset) (drop x.offset f)) ≡ x.length + seal_length
+  pub sealed_length : length (take (x.length + seal_length) (drop x.offset f)) ≡ x.length + seal_length
 
 pub lent : (f : Bytes) (position : ℕ) (x : Entry) → position + entry_length ≤ length f → x.offset + (x.length + seal_length) ≤ length f → Lent f position x
 lent f position x h g =
-    let q₁ : position + entry_length - position ≡ entry_length = omega arith in
-    let q₂ : x.offset + (x.length + seal_length) - x.offset ≡ x.length + seal_length = omega arith in
-    let e₁ = ap (λ (n : ℕ). take n (drop position f)) q₁ in
-    let e₂ = ap (λ (n : ℕ). take n (drop x.offset f)) q₂ in
+    let q : position + entry_length - position ≡ entry_length = omega arith in
+    let e = ap (λ (n : ℕ). take n (drop position f)) q in
     let d₁ = length-drop position f in
     let d₂ = length-drop x.offset f in
     record {
-      entry = e₁;
-      sealed = e₂;
-      entry_length_lem = ap length e₁ ∙ length-take-le entry_length (drop position f) (omega (arith, d₁, h));
-      sealed_length = ap length e₂ ∙ length-take-le (x.length + seal_length) (drop x.offset f) (omega (arith, d₂, g));
+      entry = e;
+      entry_length_lem = ap length e ∙ length-take-le entry_length (drop position f) (omega (arith, d₁, h));
+      sealed_length = length-take-le (x.length + seal_length) (drop x.offset f) (omega (arith, d₂, g));
     }
 
 -- ---- the entry of a place, as it was read

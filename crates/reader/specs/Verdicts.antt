@@ -19,6 +19,7 @@ abbrev pub verdict_mark : Verdict → ℕ
 verdict_mark Agree = 0
 verdict_mark (Differs shot) = shot.0
 
+-- what verifying the parts answers
 abbrev pub tested : Verdict → Result (Unit {0}) Refusal
 tested Agree = Ok tt
 tested (Differs shot) = Err (TagDiffers shot.0)

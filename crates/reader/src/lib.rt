@@ -1,10 +1,10 @@
 // The reader of bursts (01, "Reader"; 02, N1): check, fetch by place, and the sealed record of a place.
 #![tactic(auto)]
 
-ghost use Rattle.std.specs.Prelude.{◌≡◌, ◌==◌, true, ◌+◌, ◌*◌, ◌≤◌, ◌<◌, [], ◌∷◌, length};
+ghost use Rattle.std.specs.Prelude.{◌≡◌, ◌==◌, true, ◌+◌, ◌*◌, ◌≤◌, ◌<◌, [], ◌∷◌, length, take, drop};
 ghost use Rattle.std.specs.List.{list_all};
-ghost use Rattle.bytes_le.specs.Bytes.{put_bytes};
-ghost use Rattle.burst.specs.Fields.{fields_length, entry_length};
+ghost use Rattle.bytes_le.specs.Bytes.{le_at, put_bytes};
+ghost use Rattle.burst.specs.Fields.{count_width, offset_width, fields_length, entry_length};
 ghost use Rattle.burst.specs.Editions.{max_entries, max_header, Known};
 ghost use Rattle.burst.specs.Parts.{seal_length, key_length};
 ghost use Rattle.burst.specs.Layout.{max_picture};
@@ -44,21 +44,43 @@ pub struct Picture {
     pub length: u32,
 }
 
+// A count of the file, and an offset or a length of it.
+fn count_at(f: &[u8], at: usize) -> u16
+    requires { at + count_width ≤ length f.now }
+    ensures { result ≡ le_at count_width f.now at }
+{
+    bytes_le::load_le(f, at, COUNT_WIDTH) as u16
+}
+
+fn offset_at(f: &[u8], at: usize) -> u32
+    requires { at + offset_width ≤ length f.now }
+    ensures { result ≡ le_at offset_width f.now at }
+{
+    bytes_le::load_le(f, at, OFFSET_WIDTH) as u32
+}
+
 // The entry that stands at a position of the file.
 pub fn entry_at(f: &[u8], position: usize) -> Entry
     requires { position + entry_length ≤ length f.now }
     ensures { result ≡ entry_at f.now position }
 {
-    let shot = bytes_le::load_le(f, position, COUNT_WIDTH);
-    let zeros = bytes_le::load_le(f, position + ZEROS_AT, COUNT_WIDTH);
-    let offset = bytes_le::load_le(f, position + RECORD_OFFSET_AT, OFFSET_WIDTH);
-    let count = bytes_le::load_le(f, position + PICTURE_LENGTH_AT, OFFSET_WIDTH);
     Entry {
-        shot: Shot(shot as u16),
-        zeros: zeros as u16,
-        offset: offset as u32,
-        length: count as u32,
+        shot: Shot(count_at(f, position)),
+        zeros: count_at(f, position + ZEROS_AT),
+        offset: offset_at(f, position + RECORD_OFFSET_AT),
+        length: offset_at(f, position + PICTURE_LENGTH_AT),
     }
+}
+
+// The sealed record of an entry, as that part of the file.
+fn sealed_of<'a>(f: &'a [u8], x: Entry) -> &'a [u8]
+    requires { x.offset + (x.length + seal_length) ≤ length f.now }
+    ensures { (result.now ≡ take (x.length + seal_length) (drop x.offset f.now)) ×
+        (result.ref_ptr.0 ≡ f.entry.ref_ptr.0) × (result.ref_ptr.1 ≡ f.entry.ref_ptr.1 + x.offset) }
+{
+    let start = x.offset as usize;
+    let end = start + (x.length as usize + SEAL_LENGTH as usize);
+    &f[start..end]
 }
 
 // Reads the entries from a position of the file on, as many as are wanted.
@@ -101,25 +123,16 @@ pub fn header_in(f: &[u8]) -> Header
     requires { fields_length ≤ length f.now }
     ensures { result ≡ header_in f.now }
 {
-    let edition = bytes_le::load_le(f, EDITION_AT, COUNT_WIDTH);
-    let taken = bytes_le::load_le(f, TAKEN_AT, COUNT_WIDTH);
-    let kept = bytes_le::load_le(f, KEPT_AT, COUNT_WIDTH);
-    let dropped = bytes_le::load_le(f, DROPPED_AT, COUNT_WIDTH);
-    let burst_number = bytes_le::load_le(f, BURST_NUMBER_AT, BURST_NUMBER_WIDTH);
-    let pictures = bytes_le::load_le(f, PICTURE_OFFSET_AT, OFFSET_WIDTH);
-    let index = bytes_le::load_le(f, INDEX_OFFSET_AT, OFFSET_WIDTH);
-    let closing = bytes_le::load_le(f, CLOSING_OFFSET_AT, OFFSET_WIDTH);
-    let total = bytes_le::load_le(f, TOTAL_AT, OFFSET_WIDTH);
     Header {
-        edition: edition as u16,
-        taken: Shot(taken as u16),
-        kept: Place(kept as u16),
-        dropped: dropped as u16,
-        burst_number,
-        pictures: pictures as u32,
-        index: index as u32,
-        closing: closing as u32,
-        total: total as u32,
+        edition: count_at(f, EDITION_AT),
+        taken: Shot(count_at(f, TAKEN_AT)),
+        kept: Place(count_at(f, KEPT_AT)),
+        dropped: count_at(f, DROPPED_AT),
+        burst_number: bytes_le::load_le(f, BURST_NUMBER_AT, BURST_NUMBER_WIDTH),
+        pictures: offset_at(f, PICTURE_OFFSET_AT),
+        index: offset_at(f, INDEX_OFFSET_AT),
+        closing: offset_at(f, CLOSING_OFFSET_AT),
+        total: offset_at(f, TOTAL_AT),
     }
 }
 
@@ -262,8 +275,6 @@ impl<'a> Reading<'a> {
         let position = self.position(place);
         let x = entry_at(f, position);
         let next = position + ENTRY_LENGTH;
-        let start = x.offset as usize;
-        let end = start + (x.length as usize + SEAL_LENGTH as usize);
         let answer = burst::verify_part(
             self.e,
             self.key,
@@ -271,7 +282,7 @@ impl<'a> Reading<'a> {
             x.shot,
             &f[position..next],
             &[],
-            &f[start..end],
+            sealed_of(f, x),
         );
         answer.map_err(|_| Refusal::TagDiffers(x.shot.0))?;
         Ok(())
@@ -300,8 +311,6 @@ impl<'a> Reading<'a> {
         let position = self.position(place);
         let x = entry_at(f, position);
         let next = position + ENTRY_LENGTH;
-        let start = x.offset as usize;
-        let end = start + (x.length as usize + SEAL_LENGTH as usize);
         let got = burst::open_part(
             self.e,
             self.key,
@@ -309,7 +318,7 @@ impl<'a> Reading<'a> {
             x.shot,
             &f[position..next],
             &[],
-            &f[start..end],
+            sealed_of(f, x),
             out,
         )?;
         let stamp = got.secret;
@@ -407,8 +416,5 @@ pub fn record<'a>(
     let Ok(position) = located else {
         return &f[..0];
     };
-    let x = entry_at(f, position);
-    let start = x.offset as usize;
-    let end = start + (x.length as usize + SEAL_LENGTH as usize);
-    &f[start..end]
+    sealed_of(f, entry_at(f, position))
 }

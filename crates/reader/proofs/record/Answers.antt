@@ -1,14 +1,15 @@
 -- `reader::record` meets its contract.
 -- Assumes nothing.
 use mathlib.Core.Path.{◌≡◌, refl, sym, ap, ◌∙◌}
-use Prim.Native.Nat.{ℕ, ◌+◌, ◌-◌}
+use Prim.Native.Nat.{ℕ, ◌+◌}
 use native.Mathlib.Omega.{arith}
-use native.Mathlib.Nat.{add_comm, add-zero}
+use native.Mathlib.Nat.{add-zero}
 use lib.ListN.{take, drop}
 use Rattle.std.specs.Prelude.{Ok}
 use Rattle.refusals.specs.Numbers.{number_of}
 use Rattle.refusals.proofs.Laws.{positive}
 use Rattle.burst.specs.declared.Entry.{Entry}
+use Rattle.burst.specs.Parts.{seal_length}
 use Rattle.reader.specs.Reader.{position_as, locate_answer}
 use Rattle.reader.proofs.Answers.{located-refusal, located-mark, located-found, located-position, located-entry, record-refused, record-done}
 use Rattle.reader.proofs.record.Goals as goal
@@ -27,18 +28,18 @@ returns-in_default c =
     (λ z. let h = positive c.in_default.field-0 in let y = ap number_of (sym c.in_default.is) ∙ located-refusal _ _ _ _ e ∙ z in omega (arith, h, y)) in
     (p.0, refl, sym (add-zero _) ∙ ap (λ (i : ℕ). a.f.ref_ptr.1 + i) p.1, n, c.mark_of.ensures ∙ located-mark _ _ _ _ e)
 
-pub entry_at-x-requires : goal.entry_at-x-requires
-entry_at-x-requires c =
-    let t = told (goal.at.entry_at-x-requires c).In-Ok in
+pub entry_at-requires : goal.entry_at-requires
+entry_at-requires c =
+    let t = told (goal.at.entry_at-requires c).In-Ok in
     let w = located-found _ _ _ _ t refl in
     let e = located-position _ _ _ _ t refl in
     omega (arith, w.accepted.front, w.below, e)
 
-pub slice_bounds-result-end-2 : goal.slice_bounds-result-end-2
-slice_bounds-result-end-2 c =
-    let t = told (goal.at.slice_bounds-result-end-2 c).In-Ok in
+pub sealed_of-requires : goal.sealed_of-requires
+sealed_of-requires c =
+    let t = told (goal.at.sealed_of-requires c).In-Ok in
     let w = located-found _ _ _ _ t refl in
-    let e = located-entry _ _ _ _ t refl _ c.entry_at-x.ensures in
+    let e = located-entry _ _ _ _ t refl _ c.entry_at.ensures in
     let n = ap (λ (x : Entry). x.length) e in
     let o = ap (λ (x : Entry). x.offset) e in
     omega (arith, w.accepted.front, w.range, n, o)
@@ -48,13 +49,12 @@ returns c =
     let a = c.args in
     let f = a.f.now in
     let t = told (goal.at.returns c).In-Ok in
-    let e = located-entry _ _ _ _ t refl _ c.entry_at-x.ensures in
+    let e = located-entry _ _ _ _ t refl _ c.entry_at.ensures in
     let p = record-done a.key.now f a.place.0 (sym (located-refusal _ _ _ _ t)) in
-    let x = c.entry_at-x.result in
-    let q : x.offset + (x.length + 32) - x.offset ≡ x.length + 32 = omega arith in (
-      ap (λ (k : ℕ). take k (drop x.offset f)) q ∙ ap (λ (y : Entry). take (y.length + 32) (drop y.offset f)) e ∙ p.0,
-      refl,
-      add_comm x.offset _ ∙ ap (λ (y : Entry). a.f.ref_ptr.1 + y.offset) e ∙ ap (λ (k : ℕ). a.f.ref_ptr.1 + k) p.1,
+    let s = c.sealed_of.ensures in (
+      s.0 ∙ ap (λ (y : Entry). take (y.length + seal_length) (drop y.offset f)) e ∙ p.0,
+      s.1,
+      s.2 ∙ ap (λ (y : Entry). a.f.ref_ptr.1 + y.offset) e ∙ ap (λ (k : ℕ). a.f.ref_ptr.1 + k) p.1,
       c.number_of.ensures ∙ located-refusal _ _ _ _ c.locate-located.ensures,
       c.mark_of.ensures ∙ located-mark _ _ _ _ c.locate-located.ensures,
     )

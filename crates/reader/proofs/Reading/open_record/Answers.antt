@@ -28,26 +28,27 @@ overflow_add-next c = let w = front _ c.args.self.now.ruled in omega (arith, w, 
 pub slice_bounds-open_part-end : goal.slice_bounds-open_part-end
 slice_bounds-open_part-end c = let g = there (goal.at.slice_bounds-open_part-end c).After-entry_at-x in omega (arith, g)
 
-pub slice_bounds-open_part-end-3 : goal.slice_bounds-open_part-end-3
-slice_bounds-open_part-end-3 c = let g = there (goal.at.slice_bounds-open_part-end-3 c).After-entry_at-x in omega (arith, g)
+pub sealed_of-requires : goal.sealed_of-requires
+sealed_of-requires c = (there (goal.at.sealed_of-requires c).After-entry_at-x).within
 
 pub open_part-requires : goal.open_part-requires
 open_part-requires c =
     let g = there (goal.at.open_part-requires c).After-entry_at-x in
     let f = c.args.self.now.f.now in
     let n = ap (λ (x : Entry). x.length) (c.entry_at-x.ensures ∙ ap (entry_at f) c.position-position.ensures) in
-    (c.args.self.now.keyed, omega (arith, g), omega (arith, g), omega (arith, g), omega (arith, g, n, c.requires.2))
+    let m = ap length c.sealed_of.ensures.0 in
+    (c.args.self.now.keyed, omega (arith, g), omega (arith, g, m), omega (arith, g, m), omega (arith, g, m, n, c.requires.2))
 
 -- the answer for the slices that were lent is that of the part
 told : (c : After-open_part) → let r = c.args.self.now in let p = c.position-position.result in let x = c.entry_at-x.result in
-    part_answer r.e r.key.now r.name x.shot.0 (take (p + 12 - p) (drop p r.f.now) ++ []) (take (x.offset + (x.length + 32) - x.offset) (drop x.offset r.f.now))
+    part_answer r.e r.key.now r.name x.shot.0 (take (p + 12 - p) (drop p r.f.now) ++ []) c.sealed_of.result.now
     ≡ answer_in r.key.now r.f.now (record_part r.f.now (position_of r.f.now c.args.place.0))
 told c =
     let r = c.args.self.now in
     let p = c.position-position in
     let x = c.entry_at-x in
     let l = (placed _ c.args.place.0 _ _ (front _ r.ruled) c.requires.0 p.ensures x.ensures).slices in
-    record-answer r.key.now r.f.now r.e r.edition r.name r.named p.result x.result x.ensures _ (append-nil _ ∙ l.entry) _ l.sealed
+    record-answer r.key.now r.f.now r.e r.edition r.name r.named p.result x.result x.ensures _ (append-nil _ ∙ l.entry) _ c.sealed_of.ensures.0
     ∙ ap (λ (i : ℕ). answer_in r.key.now r.f.now (record_part r.f.now i)) p.ensures
 
 -- the tag agrees
@@ -66,10 +67,10 @@ returns c =
     let l = (there (goal.at.returns c).After-entry_at-x).slices in
     let is : x.result ≡ entry_at f (position_of f c.args.place.0) = x.ensures ∙ ap (entry_at f) p.ensures in
     let z : length (sealed_in k f part) ≡ x.result.length + seal_length =
-    sym (ap (λ (y : Entry). length (take (y.length + seal_length) (drop y.offset f))) is) ∙ sym (ap length l.sealed) ∙ l.sealed_length in (
+    sym (ap (λ (y : Entry). length (take (y.length + seal_length) (drop y.offset f))) is) ∙ l.sealed_length in (
       ap₂ fetched_as is (mark-told k f part _ (c.in_ok-got.ensures.answer ∙ told (goal.at.returns c).After-open_part) (omega (arith, z))),
       c.in_ok-got.ensures.output
-          ∙ record-output k f r.e r.edition r.name r.named p.result x.result x.ensures _ (append-nil _ ∙ l.entry) _ l.sealed c.args.out.now
+          ∙ record-output k f r.e r.edition r.name r.named p.result x.result x.ensures _ (append-nil _ ∙ l.entry) _ c.sealed_of.ensures.0 c.args.out.now
           ∙ ap (λ (i : ℕ). let q = record_part f i in part_output (edition_in f) k (name_in f) q.shot q.associated (sealed_in k f q) c.args.out.now) p.ensures
           ∙ body-told k f part c.args.out.now c.requires.1,
     )

@@ -5,6 +5,7 @@ use mathlib.Core.Path.{◌≡◌, sym, ap, ◌∙◌}
 use Prim.Native.Nat.{ℕ}
 use native.Mathlib.Omega.{arith}
 use borrow.Author.Rules.{rules}
+use lib.ListN.{length}
 use Rattle.refusals.specs.declared.Refusal.TheVariants.{TagDiffers}
 use Rattle.refusals.proofs.Laws.{passed-on}
 use Rattle.icepole.specs.Answers.{opened_as}
@@ -29,7 +30,7 @@ told c =
     let x = c.entry_at-x in
     let l = (placed _ c.args.place.0 _ _ (front _ r.ruled) c.requires p.ensures x.ensures).slices in
     c.verify_part-answer.ensures
-    ∙ record-answer r.key.now r.f.now r.e r.edition r.name r.named p.result x.result x.ensures _ (append-nil _ ∙ l.entry) _ l.sealed
+    ∙ record-answer r.key.now r.f.now r.e r.edition r.name r.named p.result x.result x.ensures _ (append-nil _ ∙ l.entry) _ c.sealed_of.ensures.0
     ∙ ap (λ (i : ℕ). answer_in r.key.now r.f.now (record_part r.f.now i)) p.ensures
 
 pub entry_at-x-requires : goal.entry_at-x-requires
@@ -41,13 +42,14 @@ overflow_add-next c = let w = front _ c.args.self.now.ruled in omega (arith, w, 
 pub slice_bounds-verify_part-end : goal.slice_bounds-verify_part-end
 slice_bounds-verify_part-end c = let g = there (goal.at.slice_bounds-verify_part-end c).After-entry_at-x in omega (arith, g)
 
-pub slice_bounds-verify_part-end-3 : goal.slice_bounds-verify_part-end-3
-slice_bounds-verify_part-end-3 c = let g = there (goal.at.slice_bounds-verify_part-end-3 c).After-entry_at-x in omega (arith, g)
+pub sealed_of-requires : goal.sealed_of-requires
+sealed_of-requires c = (there (goal.at.sealed_of-requires c).After-entry_at-x).within
 
 pub verify_part-answer-requires : goal.verify_part-answer-requires
 verify_part-answer-requires c =
     let g = there (goal.at.verify_part-answer-requires c).After-entry_at-x in
-    (c.args.self.now.keyed, omega (arith, g), omega (arith, g), omega (arith, g))
+    let n = ap length c.sealed_of.ensures.0 in
+    (c.args.self.now.keyed, omega (arith, g), omega (arith, g, n), omega (arith, g, n))
 
 pub returns-in_err-map_err : goal.returns-in_err-map_err
 returns-in_err-map_err c =
