@@ -16,9 +16,6 @@ returns-then-key-ne-KEY_BYTES c = check-1 _ _ c.if-key-ne-KEY_BYTES.true
 pub returns-then-not-front_ok : goal.returns-then-not-front_ok
 returns-then-not-front_ok c = check-12 _ _ (omega arith) (sym c.front_ok.ensures ∙ c.if-not-front_ok.true)
 
-pub of-file-requires : goal.of-file-requires
-of-file-requires c = (omega (arith, c.if-key-ne-KEY_BYTES), sym c.front_ok.ensures ∙ c.if-not-front_ok.false)
-
 -- the answers are those of the reading, which is of key and file
 pub returns-in_err-closing : goal.returns-in_err-closing
 returns-in_err-closing c =

@@ -72,16 +72,6 @@ pub returns-then-not-rest_ok : goal.returns-then-not-rest_ok
 returns-then-not-rest_ok c =
     refuted _ (λ t. clash _ (told (goal.at.returns-then-not-rest_ok c).After-edition_in-e t).rest (sym c.rest_ok.ensures ∙ c.if-not-rest_ok.true))
 
-pub overflow_add-e : goal.overflow_add-e
-overflow_add-e c = let k = c.edition_in-e.ensures.1 in omega (arith, k)
-
-pub rest_ok-requires : goal.rest_ok-requires
-rest_ok-requires c =
-    (c.edition_in-e.ensures.1, omega (arith, c.if-f-e))
-
-pub index_ok-requires : goal.index_ok-requires
-index_ok-requires c = let w = here (goal.at.index_ok-requires c).Else-not-rest_ok in omega (arith, w.known, w.most, w.counts, w.closing, w.total, w.size)
-
 pub returns : goal.returns
 returns c =
     c.index_ok.ensures ∙ reads-is _ _ _ c.header_in-h.ensures c.edition_in-e.ensures.0 (here (goal.at.returns c).Else-not-rest_ok)

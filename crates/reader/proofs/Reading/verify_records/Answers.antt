@@ -1,10 +1,9 @@
 -- `reader::Reading::verify_records` meets its contract. The loop's invariant: the verdict on all records is that on the records that are left.
 -- Assumes nothing.
-use mathlib.Core.Path.{◌≡◌, sym, ap, ap₂, ◌∙◌}
+use mathlib.Core.Path.{◌≡◌, sym, ap, ◌∙◌}
 use Prim.Native.Nat.{ℕ, suc, ◌+◌, ◌-◌}
 use native.Mathlib.Omega.{arith}
 use Rattle.refusals.proofs.Laws.{passed-on}
-use Rattle.reader.specs.declared.Header.{Header}
 use Rattle.reader.specs.Front.{kept_in, index_offset_in, position_of}
 use Rattle.reader.specs.Reader.{record_parts, verdict_on}
 use Rattle.reader.specs.Verdicts.{Verdict, tested}
@@ -22,23 +21,12 @@ left c =
     let n : c.args.self.now.h.kept.0 - c.loop-place.place ≡ suc (c.args.self.now.h.kept.0 - (c.loop-place.place + 1)) = omega (arith, c.loop-place-test) in
     c.loop-place.invariant ∙ ap (λ (k : ℕ). verdict_from c k (position_of c.args.self.now.f.now c.loop-place.place)) n
 
-pub verify_record-requires : goal.verify_record-requires
-verify_record-requires c = let k = ap (λ (h : Header). h.kept.0) c.args.self.now.header in omega (arith, k, c.loop-place-test)
-
 pub returns-in_err-verify_record : goal.returns-in_err-verify_record
 returns-in_err-verify_record c =
     let r = c.args.self.now in
     passed-on _ _ c.from_residual.ensures.1
     ∙ first-refused r.key.now r.f.now _ _ _ c.in_err-verify_record.ensures
     ∙ ap tested (sym (left (goal.at.returns-in_err-verify_record c).After-verify_record))
-
-pub loop-place-init : goal.loop-place-init
-loop-place-init c =
-    let r = c.args.self.now in
-    let k = ap (λ (h : Header). h.kept.0) r.header in
-    let n : kept_in r.f.now ≡ r.h.kept.0 - 0 = omega (arith, k) in
-    let i : index_offset_in r.f.now ≡ position_of r.f.now 0 = omega arith in
-    ap₂ (λ (n i : ℕ). verdict_on r.key.now r.f.now (record_parts n i r.f.now)) n i
 
 pub loop-place-preserved : goal.loop-place-preserved
 loop-place-preserved c =
