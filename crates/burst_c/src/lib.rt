@@ -24,9 +24,6 @@ const CHECK_INFO: usize = BURST_NUMBER_WIDTH + MARK_BYTES + 3 * COUNT_WIDTH + CA
 
 const FETCH_INFO: usize = COUNT_WIDTH + OFFSET_WIDTH + MARK_BYTES;
 
-// The largest place that 16 bits hold. No file has so many pictures.
-const LAST_PLACE: usize = 65535;
-
 pub fn burst_replay(
     key: &[u8],
     burst_number: u64,
@@ -95,10 +92,7 @@ pub fn burst_check(key: &[u8], file: &[u8], mark: &mut u32, info: &mut [u8]) -> 
 fn place_of(place: usize) -> Place
     ensures { result.0 ≡ place_of place }
 {
-    if place > LAST_PLACE {
-        return Place(LAST_PLACE as u16);
-    }
-    Place(place as u16)
+    Place(u16::try_from(place).unwrap_or(u16::MAX))
 }
 
 fn put_picture(p: Picture, info: &mut [u8])
