@@ -1,4 +1,5 @@
 pub mod Lengths
+pub mod Contexts
 pub mod Sealing
 pub mod Ways
 pub mod WayLaws

@@ -7,6 +7,7 @@ ghost use Rattle.std.specs.Prelude.{◌≡◌, ◌++◌, ◌+◌, ◌*◌, ◌^�
 ghost use Rattle.bits.specs.Bits.{word_range};
 ghost use Rattle.bytes_le.specs.Bytes.{Bytes, le, put_bytes, same};
 ghost use Rattle.state_bytes.specs.StateBytes.{state_words, state_length, bytes_of};
+ghost use Rattle.blocks.specs.Contexts.{associated};
 ghost use Rattle.blocks.specs.Lengths.{tag_length, max_key, max_nonce, max_length};
 ghost use Rattle.blocks.specs.Sealing.{◌⊕₈◌, xor_with, keyed, finish, absorb_associated, absorb_message, encrypt, decrypt};
 ghost use Rattle.blocks.specs.Sealing.{ready, sealed, secret_of, ready_of, expected_tag, tag, message_part, tag_part};
@@ -21,6 +22,15 @@ pub struct Sizes {
     pub nonce: usize,
     pub secret: usize,
     pub block: usize,
+}
+
+// What a message is sealed and opened under: key, nonce, and associated data in two parts, which mean their joining (01, "Sealing and opening").
+#[derive(Clone, Copy)]
+pub struct Context<'a> {
+    pub key: &'a [u8],
+    pub nonce: &'a [u8],
+    pub first: &'a [u8],
+    pub second: &'a [u8],
 }
 
 // Bytes of the tag, under every variant.
@@ -306,16 +316,16 @@ pub fn finish(s: &mut State, n: usize, frame: u64)
 
 // ---- the keyed state and the tag
 // The state after key and nonce. The zero bytes after a nonce of 12 change nothing, and are not xored in.
-fn keyed_state(s: &mut State, key: &[u8], nonce: &[u8])
-    requires { (length key.now ≤ max_key) × (length nonce.now ≤ max_nonce) }
-    ensures { bytes_of s.new ≡ keyed key.now nonce.now }
+fn keyed_state(s: &mut State, x: Context<'_>)
+    requires { (length x.key.now ≤ max_key) × (length x.nonce.now ≤ max_nonce) }
+    ensures { bytes_of s.new ≡ keyed x.entry.key.now x.entry.nonce.now }
 {
     state_bytes::start(s);
     let d = Joined {
-        first: key,
-        second: nonce,
+        first: x.key,
+        second: x.nonce,
     };
-    take_bytes::<Seal, Nowhere, _>(s, d, 0, key.len() + nonce.len(), &mut [], 0);
+    take_bytes::<Seal, Nowhere, _>(s, d, 0, x.key.len() + x.nonce.len(), &mut [], 0);
     state_bytes::permute::<12>(s);
 }
 
@@ -369,19 +379,22 @@ fn take_blocks<A: Way, K: Sink, S: Source>(
     l - at
 }
 
-// The state after associated data in two parts.
-fn absorb_associated(s: &mut State, n: usize, first: &[u8], second: &[u8])
-    requires { (0 < n) × (n < state_words) × (length first.now + length second.now ≤ max_length) }
-    ensures { bytes_of s.new ≡ absorb_associated (8 * n) (bytes_of s.old) (first.now ++ second.now) }
+// The state after associated data.
+fn absorb_associated(s: &mut State, n: usize, x: Context<'_>)
+    requires { (0 < n) × (n < state_words) × (length x.first.now + length x.second.now ≤ max_length) }
+    ensures { bytes_of s.new ≡ absorb_associated (8 * n) (bytes_of s.old) (associated x.entry) }
 {
-    let d = Joined { first, second };
+    let d = Joined {
+        first: x.first,
+        second: x.second,
+    };
     let last = take_blocks::<Seal, Nowhere, _>(
         s,
         n,
         0,
         d,
         0,
-        first.len() + second.len(),
+        x.first.len() + x.second.len(),
         &mut [],
         0,
     );
@@ -429,65 +442,56 @@ pub fn decrypt_in_place(s: &mut State, n: usize, b: &mut [u8], from: usize, l: u
 fn ready<A: Way>(
     s: &mut State,
     q: Sizes,
-    key: &[u8],
-    nonce: &[u8],
-    first: &[u8],
-    second: &[u8],
+    x: Context<'_>,
     d: &[u8],
     out: &mut [u8],
 )
-    requires { Bounded q × (length key.now ≡ q.key) × (length nonce.now ≡ q.nonce)
-        × (length first.now + length second.now ≤ max_length) × (q.secret ≤ length d.now) × (q.secret ≤ length out.old) }
-    ensures { (bytes_of s.new ≡ ready q.block (keyed key.now nonce.now)
-        (A.taken (keyed key.now nonce.now) (take q.secret d.now)) (first.now ++ second.now))
-        × (out.new ≡ put_bytes out.old 0 (keyed key.now nonce.now ⊕₈ take q.secret d.now)) }
+    requires { Bounded q × (length x.key.now ≡ q.key) × (length x.nonce.now ≡ q.nonce)
+        × (length x.first.now + length x.second.now ≤ max_length) × (q.secret ≤ length d.now) × (q.secret ≤ length out.old) }
+    ensures { (bytes_of s.new ≡ ready q.block (keyed x.entry.key.now x.entry.nonce.now)
+        (A.taken (keyed x.entry.key.now x.entry.nonce.now) (take q.secret d.now)) (associated x.entry))
+        × (out.new ≡ put_bytes out.old 0 (keyed x.entry.key.now x.entry.nonce.now ⊕₈ take q.secret d.now)) }
 {
     let n = q.secret;
-    keyed_state(s, key, nonce);
+    keyed_state(s, x);
     take_bytes::<A, Written, _>(s, d, 0, n, out, 0);
     finish(s, n, 0);
-    absorb_associated(s, q.block / 8, first, second);
+    absorb_associated(s, q.block / 8, x);
 }
 
 // The state after the secret number, which is put into out at its front, sealed, and the associated data.
 pub fn seal_ready(
     s: &mut State,
     q: Sizes,
-    key: &[u8],
-    nonce: &[u8],
+    x: Context<'_>,
     secret: &[u8],
-    first: &[u8],
-    second: &[u8],
     out: &mut [u8],
 )
-    requires { Bounded q × (length key.now ≡ q.key) × (length nonce.now ≡ q.nonce) × (length secret.now ≡ q.secret)
-        × (length first.now + length second.now ≤ max_length) × (q.secret ≤ length out.old) }
-    ensures { (bytes_of s.new ≡ ready q.block (keyed key.now nonce.now) secret.now
-        (first.now ++ second.now))
-        × (out.new ≡ put_bytes out.old 0 (keyed key.now nonce.now ⊕₈ secret.now)) }
+    requires { Bounded q × (length x.key.now ≡ q.key) × (length x.nonce.now ≡ q.nonce) × (length secret.now ≡ q.secret)
+        × (length x.first.now + length x.second.now ≤ max_length) × (q.secret ≤ length out.old) }
+    ensures { (bytes_of s.new ≡ ready q.block (keyed x.entry.key.now x.entry.nonce.now) secret.now
+        (associated x.entry))
+        × (out.new ≡ put_bytes out.old 0 (keyed x.entry.key.now x.entry.nonce.now ⊕₈ secret.now)) }
 {
-    ready::<Seal>(s, q, key, nonce, first, second, secret, out);
+    ready::<Seal>(s, q, x, secret, out);
 }
 
 // Writes the sealed message at the front of out.
 pub fn seal_into(
     q: Sizes,
-    key: &[u8],
-    nonce: &[u8],
+    x: Context<'_>,
     secret: &[u8],
-    first: &[u8],
-    second: &[u8],
     message: &[u8],
     out: &mut [u8],
 )
-    requires { Bounded q × (length key.now ≡ q.key) × (length nonce.now ≡ q.nonce) × (length secret.now ≡ q.secret)
-        × (length first.now + length second.now ≤ max_length) × (q.secret + (length message.now + tag_length) ≤ length out.old) }
+    requires { Bounded q × (length x.key.now ≡ q.key) × (length x.nonce.now ≡ q.nonce) × (length secret.now ≡ q.secret)
+        × (length x.first.now + length x.second.now ≤ max_length) × (q.secret + (length message.now + tag_length) ≤ length out.old) }
     ensures { out.new ≡ put_bytes out.old 0
-        (sealed q key.now nonce.now secret.now (first.now ++ second.now) message.now) }
+        (sealed q x.entry.key.now x.entry.nonce.now secret.now (associated x.entry) message.now) }
 {
     let n = q.secret;
     let mut s = [[0u64; 5]; 4];
-    seal_ready(&mut s, q, key, nonce, secret, first, second, out);
+    seal_ready(&mut s, q, x, secret, out);
     encrypt_message(&mut s, q.block / 8, message, out, n);
     put_tag(&s, out, n + message.len());
 }
@@ -510,20 +514,17 @@ fn tag_agrees(q: Sizes, u: &State, c: &[u8]) -> bool
 pub fn verify_sealed(
     s: &mut State,
     q: Sizes,
-    key: &[u8],
-    nonce: &[u8],
-    first: &[u8],
-    second: &[u8],
+    x: Context<'_>,
     c: &[u8],
     secret: &mut [u8],
 ) -> bool
-    requires { Bounded q × (length key.now ≡ q.key) × (length nonce.now ≡ q.nonce)
-        × (length first.now + length second.now ≤ max_length) × (q.secret + tag_length ≤ length c.now) × (q.secret ≤ length secret.old) }
-    ensures { (result ≡ same (expected_tag q key.now nonce.now (first.now ++ second.now) c.now)
+    requires { Bounded q × (length x.key.now ≡ q.key) × (length x.nonce.now ≡ q.nonce)
+        × (length x.first.now + length x.second.now ≤ max_length) × (q.secret + tag_length ≤ length c.now) × (q.secret ≤ length secret.old) }
+    ensures { (result ≡ same (expected_tag q x.entry.key.now x.entry.nonce.now (associated x.entry) c.now)
         (tag_part c.now))
-        × (bytes_of s.new ≡ ready_of q key.now nonce.now (first.now ++ second.now) c.now)
-        × (secret.new ≡ put_bytes secret.old 0 (secret_of q key.now nonce.now c.now)) }
+        × (bytes_of s.new ≡ ready_of q x.entry.key.now x.entry.nonce.now (associated x.entry) c.now)
+        × (secret.new ≡ put_bytes secret.old 0 (secret_of q x.entry.key.now x.entry.nonce.now c.now)) }
 {
-    ready::<Open>(s, q, key, nonce, first, second, c, secret);
+    ready::<Open>(s, q, x, c, secret);
     tag_agrees(q, s, c)
 }

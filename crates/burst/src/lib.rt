@@ -15,7 +15,7 @@ ghost use Rattle.burst.specs.Recorder.{edition_of, name_of, identity_of, is_soun
 ghost use Rattle.burst.specs.Recorder.{shot_as, drop_refusal, drop_answer, keep_refusal, after_keep, keep_answer, keep_buffer};
 ghost use Rattle.burst.specs.Recorder.{recorder_header, recorder_index, closed_as, close_refusal, close_answer, close_buffer};
 
-use icepole::{KEY_BYTES, NONCE_BYTES, Released, SECRET_BYTES, TAG_BYTES, Variant};
+use icepole::{Context, KEY_BYTES, NONCE_BYTES, Released, SECRET_BYTES, TAG_BYTES, Variant};
 use refusals::Refusal;
 
 // A shot number (01): counts firings from 1.
@@ -374,17 +374,13 @@ fn seal_part(
         (seal_part e key.now name shot.0 mark.now (first.now ++ second.now) body.now) }
 {
     let nonce = nonce_of(e, name, shot);
-    icepole::seal(
-        Variant::Icepole128,
+    let context = Context {
         key,
-        &nonce,
-        mark,
+        nonce: &nonce,
         first,
         second,
-        body,
-        out,
-    )
-    .unwrap();
+    };
+    icepole::seal(Variant::Icepole128, context, mark, body, out).unwrap();
 }
 
 // How many padded blocks sealing a part absorbs, from the lengths of its associated data and its body (02, N4).
@@ -412,7 +408,13 @@ pub fn verify_part(
     ensures { opened_as result ≡ part_answer e key.now name shot.0 (first.now ++ second.now) sealed.now }
 {
     let nonce = nonce_of(e, name, shot);
-    icepole::verify(Variant::Icepole128, key, &nonce, first, second, sealed)
+    let context = Context {
+        key,
+        nonce: &nonce,
+        first,
+        second,
+    };
+    icepole::verify(Variant::Icepole128, context, sealed)
 }
 
 // Opens a part: its body is written to the front of out once the tag was found to agree.
@@ -433,7 +435,13 @@ pub fn open_part(
     ensures output { out.new ≡ part_output e key.now name shot.0 (first.now ++ second.now) sealed.now out.old }
 {
     let nonce = nonce_of(e, name, shot);
-    icepole::open_message(Variant::Icepole128, key, &nonce, first, second, sealed, out)
+    let context = Context {
+        key,
+        nonce: &nonce,
+        first,
+        second,
+    };
+    icepole::open_message(Variant::Icepole128, context, sealed, out)
 }
 
 // Puts an entry's bytes into out from index at on; returns the index behind them.

@@ -2,15 +2,17 @@
 // done by the crate `blocks`.
 #![tactic(auto)]
 
-ghost use Rattle.std.specs.Prelude.{◌≡◌, true, ◌++◌, ◌+◌, ◌-◌, leb};
+ghost use Rattle.std.specs.Prelude.{◌≡◌, true, ◌+◌, ◌-◌, leb};
 ghost use Rattle.refusals.specs.Numbers.{number_of, mark_of};
 ghost use Rattle.state_bytes.specs.StateBytes.{bytes_of};
+ghost use Rattle.blocks.specs.Contexts.{associated};
 ghost use Rattle.blocks.specs.Lengths.{tag_length};
 ghost use Rattle.blocks.specs.Sealing.{ready_of};
 ghost use Rattle.blocks.specs.Bounds.{Bounded};
 ghost use Rattle.icepole.specs.Variants.{sizes};
 ghost use Rattle.icepole.specs.Answers.{seal_number, open_number, sealed_as, seal_answer, seal_output, opened_as, open_answer, open_output, fits_output};
 
+pub use blocks::Context;
 use blocks::Sizes;
 use refusals::Refusal;
 
@@ -162,31 +164,28 @@ fn message_fits(q: Sizes, sealed: usize, out: usize) -> bool
 // Sealing: the count of bytes written at the front of out.
 pub fn seal(
     v: Variant,
-    key: &[u8],
-    nonce: &[u8],
+    x: Context<'_>,
     secret: &[u8],
-    first: &[u8],
-    second: &[u8],
     message: &[u8],
     out: &mut [u8],
 ) -> Result<usize, Refusal>
-    ensures answer { sealed_as result ≡ seal_answer v key.now nonce.now secret.now
-        (first.now ++ second.now) message.now out.old }
-    ensures output { out.new ≡ seal_output v key.now nonce.now secret.now
-        (first.now ++ second.now) message.now out.old }
+    ensures answer { sealed_as result ≡ seal_answer v x.entry.key.now x.entry.nonce.now secret.now
+        (associated x.entry) message.now out.old }
+    ensures output { out.new ≡ seal_output v x.entry.key.now x.entry.nonce.now secret.now
+        (associated x.entry) message.now out.old }
 {
     let q = sizes_of(v);
     may_seal(
         v,
-        key.len(),
-        nonce.len(),
+        x.key.len(),
+        x.nonce.len(),
         secret.len(),
-        first.len(),
-        second.len(),
+        x.first.len(),
+        x.second.len(),
         message.len(),
         out.len(),
     )?;
-    blocks::seal_into(q, key, nonce, secret, first, second, message, out);
+    blocks::seal_into(q, x, secret, message, out);
     Ok(q.secret + (message.len() + TAG_BYTES))
 }
 
@@ -194,30 +193,27 @@ pub fn seal(
 // associated data is left in state; else what is left there is of no use.
 fn open_verified(
     v: Variant,
-    key: &[u8],
-    nonce: &[u8],
-    first: &[u8],
-    second: &[u8],
+    x: Context<'_>,
     sealed: &[u8],
     fits: bool,
     state: &mut State,
 ) -> Result<Released, Refusal>
-    ensures answer { opened_as result ≡ open_answer v key.now nonce.now (first.now ++ second.now) sealed.now fits }
+    ensures answer { opened_as result ≡ open_answer v x.entry.key.now x.entry.nonce.now (associated x.entry) sealed.now fits }
     ensures ready { number_of result ≡ 0 → bytes_of state.new
-        ≡ ready_of (sizes v) key.now nonce.now (first.now ++ second.now) sealed.now }
+        ≡ ready_of (sizes v) x.entry.key.now x.entry.nonce.now (associated x.entry) sealed.now }
 {
     let q = sizes_of(v);
     may_open(
         v,
-        key.len(),
-        nonce.len(),
-        first.len(),
-        second.len(),
+        x.key.len(),
+        x.nonce.len(),
+        x.first.len(),
+        x.second.len(),
         sealed.len(),
         fits,
     )?;
     let mut secret = [0u8; SECRET_BYTES];
-    let agrees = blocks::verify_sealed(state, q, key, nonce, first, second, sealed, &mut secret);
+    let agrees = blocks::verify_sealed(state, q, x, sealed, &mut secret);
     if !agrees {
         return Err(Refusal::TagDiffers(0));
     }
@@ -228,39 +224,29 @@ fn open_verified(
 }
 
 // Opening without a message: whether the tag agrees, the message's length and the secret number. It writes nothing.
-pub fn verify(
-    v: Variant,
-    key: &[u8],
-    nonce: &[u8],
-    first: &[u8],
-    second: &[u8],
-    sealed: &[u8],
-) -> Result<Released, Refusal>
-    ensures { opened_as result ≡ open_answer v key.now nonce.now (first.now ++ second.now) sealed.now true }
+pub fn verify(v: Variant, x: Context<'_>, sealed: &[u8]) -> Result<Released, Refusal>
+    ensures { opened_as result ≡ open_answer v x.entry.key.now x.entry.nonce.now (associated x.entry) sealed.now true }
 {
     let mut state = [[0u64; 5]; 4];
-    open_verified(v, key, nonce, first, second, sealed, true, &mut state)
+    open_verified(v, x, sealed, true, &mut state)
 }
 
 // Opening. The message is written only after the tag was found to agree.
 pub fn open_message(
     v: Variant,
-    key: &[u8],
-    nonce: &[u8],
-    first: &[u8],
-    second: &[u8],
+    x: Context<'_>,
     sealed: &[u8],
     out: &mut [u8],
 ) -> Result<Released, Refusal>
-    ensures answer { opened_as result ≡ open_answer v key.now nonce.now (first.now ++ second.now) sealed.now
+    ensures answer { opened_as result ≡ open_answer v x.entry.key.now x.entry.nonce.now (associated x.entry) sealed.now
         (fits_output v sealed.now out.old) }
-    ensures output { out.new ≡ open_output v key.now nonce.now (first.now ++ second.now) sealed.now
+    ensures output { out.new ≡ open_output v x.entry.key.now x.entry.nonce.now (associated x.entry) sealed.now
         (fits_output v sealed.now out.old) out.old }
 {
     let q = sizes_of(v);
     let fits = message_fits(q, sealed.len(), out.len());
     let mut state = [[0u64; 5]; 4];
-    let released = open_verified(v, key, nonce, first, second, sealed, fits, &mut state)?;
+    let released = open_verified(v, x, sealed, fits, &mut state)?;
     blocks::decrypt_message(
         &mut state,
         q.block / 8,
@@ -274,21 +260,14 @@ pub fn open_message(
 
 // Opening in place (02, N6): all of buffer is the sealed message, and the message is put at its front. It is written only after the tag was found to agree; until
 // then the buffer is only read.
-pub fn open_in_place(
-    v: Variant,
-    key: &[u8],
-    nonce: &[u8],
-    first: &[u8],
-    second: &[u8],
-    buffer: &mut [u8],
-) -> Result<Released, Refusal>
-    ensures answer { opened_as result ≡ open_answer v key.now nonce.now (first.now ++ second.now) buffer.old true }
-    ensures output { buffer.new ≡ open_output v key.now nonce.now (first.now ++ second.now) buffer.old true
+pub fn open_in_place(v: Variant, x: Context<'_>, buffer: &mut [u8]) -> Result<Released, Refusal>
+    ensures answer { opened_as result ≡ open_answer v x.entry.key.now x.entry.nonce.now (associated x.entry) buffer.old true }
+    ensures output { buffer.new ≡ open_output v x.entry.key.now x.entry.nonce.now (associated x.entry) buffer.old true
         buffer.old }
 {
     let q = sizes_of(v);
     let mut state = [[0u64; 5]; 4];
-    let released = open_verified(v, key, nonce, first, second, buffer, true, &mut state)?;
+    let released = open_verified(v, x, buffer, true, &mut state)?;
     blocks::decrypt_in_place(&mut state, q.block / 8, buffer, q.secret, released.length);
     Ok(released)
 }

@@ -4,7 +4,7 @@
 ghost use Rattle.std.specs.Prelude.{◌≡◌, true, ◌++◌};
 ghost use Rattle.icepole.specs.Answers.{open_refusal};
 
-use icepole::Variant;
+use icepole::{Context, Variant};
 
 #[unsafe(no_mangle)]
 pub extern "C" fn bench_verify128(
@@ -16,6 +16,12 @@ pub extern "C" fn bench_verify128(
 ) -> u32
     ensures { result ≡ open_refusal Variant.Icepole128 key.now nonce.now (first.now ++ second.now) sealed.now true }
 {
-    let verified = icepole::verify(Variant::Icepole128, key, nonce, first, second, sealed);
+    let context = Context {
+        key,
+        nonce,
+        first,
+        second,
+    };
+    let verified = icepole::verify(Variant::Icepole128, context, sealed);
     refusals::number_of(&verified)
 }

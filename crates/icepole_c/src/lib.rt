@@ -10,7 +10,7 @@ ghost use Rattle.icepole.specs.Answers.{opened_as};
 ghost use Rattle.icepole_c.specs.Calls.{info_after, SealContract, OpenContract, InPlaceContract};
 ghost use Rattle.icepole_c.specs.Strips.{strip_state_length, strip_state_bytes, strip_state_in, StartContract, StripContract, EndContract};
 
-use icepole::{Released, Variant};
+use icepole::{Context, Released, Variant};
 use refusals::Refusal;
 use state_bytes::STATE_BYTES;
 use strips::StripState;
@@ -28,7 +28,13 @@ pub fn seal(
     ensures { SealContract v key.now nonce.now secret.now
         (first.now ++ second.now) message.now out.old result out.new }
 {
-    let sealed = icepole::seal(v, key, nonce, secret, first, second, message, out);
+    let context = Context {
+        key,
+        nonce,
+        first,
+        second,
+    };
+    let sealed = icepole::seal(v, context, secret, message, out);
     refusals::number_of(&sealed)
 }
 
@@ -72,7 +78,13 @@ pub fn open(
             false,
         ));
     }
-    let opened = icepole::open_message(v, key, nonce, first, second, sealed, out);
+    let context = Context {
+        key,
+        nonce,
+        first,
+        second,
+    };
+    let opened = icepole::open_message(v, context, sealed, out);
     put_info(&opened, n, info);
     refusals::number_of(&opened)
 }
@@ -101,7 +113,13 @@ pub fn open_in_place(
             false,
         ));
     }
-    let opened = icepole::open_in_place(v, key, nonce, first, second, buffer);
+    let context = Context {
+        key,
+        nonce,
+        first,
+        second,
+    };
+    let opened = icepole::open_in_place(v, context, buffer);
     put_info(&opened, secret_length, info);
     refusals::number_of(&opened)
 }
@@ -165,7 +183,13 @@ pub fn start(
         }
         return Refusal::OutputTooShort.number();
     }
-    let started = strips::start(key, nonce, secret, first, second, out);
+    let context = Context {
+        key,
+        nonce,
+        first,
+        second,
+    };
+    let started = strips::start(context, secret, out);
     put_strip_state(started.state, state);
     refusals::number_of(&started.written)
 }

@@ -4,7 +4,7 @@
 
 ghost use Rattle.std.specs.Prelude.{◌≤◌, length};
 
-use icepole::Variant;
+use icepole::{Context, Variant};
 use std::{array, io};
 
 const VARIANTS: [Variant; 3] = [
@@ -33,11 +33,8 @@ const RUN: usize = 576;
 #[derive(Clone, Copy)]
 struct Case<'a> {
     variant: Variant,
-    key: &'a [u8],
-    nonce: &'a [u8],
+    context: Context<'a>,
     secret: &'a [u8],
-    first: &'a [u8],
-    second: &'a [u8],
     message: &'a [u8],
 }
 
@@ -75,29 +72,26 @@ fn cut<'a>(run: &'a [u8; RUN], variant: Variant, m: usize, s: usize, a: usize) -
     let (first, second) = run[ASSOCIATED..ASSOCIATED + a].split_at(s);
     Case {
         variant,
-        key: &run[KEY..KEY + q.key],
-        nonce: &run[NONCE..NONCE + q.nonce],
+        context: Context {
+            key: &run[KEY..KEY + q.key],
+            nonce: &run[NONCE..NONCE + q.nonce],
+            first,
+            second,
+        },
         secret: &run[SECRET..SECRET + q.secret],
-        first,
-        second,
         message: &run[MESSAGE..MESSAGE + m],
     }
 }
 
 // Whether it was sealed.
 fn seals(c: &Case<'_>, out: &mut [u8]) -> bool {
-    icepole::seal(
-        c.variant, c.key, c.nonce, c.secret, c.first, c.second, c.message, out,
-    )
-    .is_ok()
+    icepole::seal(c.variant, c.context, c.secret, c.message, out).is_ok()
 }
 
 // Whether opening gives back message and secret number.
 fn opens(c: &Case<'_>, sealed: &[u8]) -> bool {
     let mut out = [0; 256];
-    let answer = icepole::open_message(
-        c.variant, c.key, c.nonce, c.first, c.second, sealed, &mut out,
-    );
+    let answer = icepole::open_message(c.variant, c.context, sealed, &mut out);
     match answer {
         Ok(released) => {
             released.length == c.message.len()
@@ -120,7 +114,11 @@ fn print_bytes(rt: &impl Print, b: &[u8]) -> io::Result<()> {
 fn print_case(rt: &impl Print, c: &Case<'_>) -> io::Result<()>
     requires { (length c.now.secret.now ≤ 16) × (length c.now.message.now ≤ 256) }
 {
-    let (m, s, t) = (c.message.len(), c.first.len(), c.second.len());
+    let (m, s, t) = (
+        c.message.len(),
+        c.context.first.len(),
+        c.context.second.len(),
+    );
     let mut out = [0; 288];
     let sealed = seals(c, &mut out);
     let written = &out[..c.secret.len() + m + 16];

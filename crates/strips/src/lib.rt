@@ -2,9 +2,10 @@
 // sealing.
 #![tactic(auto)]
 
-ghost use Rattle.std.specs.Prelude.{◌≡◌, ◌++◌, ◌+◌, ◌≤◌, length, drop};
+ghost use Rattle.std.specs.Prelude.{◌≡◌, ◌+◌, ◌≤◌, length, drop};
 ghost use Rattle.refusals.specs.Numbers.{number_of, mark_of};
 ghost use Rattle.bytes_le.specs.Bytes.{put_bytes};
+ghost use Rattle.blocks.specs.Contexts.{associated};
 ghost use Rattle.icepole.specs.declared.Variant.TheVariants.{Icepole128};
 ghost use Rattle.icepole.specs.Answers.{unless};
 ghost use Rattle.icepole.specs.Variants.{sizes};
@@ -13,7 +14,7 @@ ghost use Rattle.strips.specs.Machine.{held, fed, fed_bytes, fill_of};
 ghost use Rattle.strips.specs.Answers.{block, start_number, strip_number, end_number, call_as, answered_as, not_started, start_answer, start_output, strip_answer, strip_output, end_answer, end_output};
 
 use blocks::{BLOCK_BYTES, BLOCK_WORDS};
-use icepole::{MAX_LENGTH, SECRET_BYTES, TAG_BYTES, Variant};
+use icepole::{Context, MAX_LENGTH, SECRET_BYTES, TAG_BYTES, Variant};
 use refusals::Refusal;
 use state_bytes::STATE_BYTES;
 
@@ -196,29 +197,26 @@ pub fn strip_in(
 
 // ---- the calls, with the state lent: the count of bytes written
 fn start_into(
-    key: &[u8],
-    nonce: &[u8],
+    x: Context<'_>,
     secret: &[u8],
-    first: &[u8],
-    second: &[u8],
     out: &mut [u8],
     state: &mut StripState,
 ) -> Result<usize, Refusal>
     requires { state.old ≡ not_started }
-    ensures answer { call_as result state.new ≡ start_answer key.now nonce.now secret.now (first.now ++ second.now) out.old }
-    ensures output { out.new ≡ start_output key.now nonce.now secret.now (first.now ++ second.now) out.old }
+    ensures answer { call_as result state.new ≡ start_answer x.entry.key.now x.entry.nonce.now secret.now (associated x.entry) out.old }
+    ensures output { out.new ≡ start_output x.entry.key.now x.entry.nonce.now secret.now (associated x.entry) out.old }
 {
     may_start(
-        key.len(),
-        nonce.len(),
+        x.key.len(),
+        x.nonce.len(),
         secret.len(),
-        first.len(),
-        second.len(),
+        x.first.len(),
+        x.second.len(),
         out.len(),
     )?;
     let q = icepole::sizes_of(Variant::Icepole128);
     let mut ready = [[0u64; 5]; 4];
-    blocks::seal_ready(&mut ready, q, key, nonce, secret, first, second, out);
+    blocks::seal_ready(&mut ready, q, x, secret, out);
     state_bytes::store_state(&ready, &mut state.bytes);
     state.finished = false;
     Ok(q.secret)
@@ -247,18 +245,11 @@ fn end_into(state: &mut StripState, out: &mut [u8]) -> Result<usize, Refusal>
 }
 
 // ---- the calls
-// The sealed secret number is written; strips may follow. Key, nonce, secret number and both parts are lent apart, as the C interface has them.
-pub fn start(
-    key: &[u8],
-    nonce: &[u8],
-    secret: &[u8],
-    first: &[u8],
-    second: &[u8],
-    out: &mut [u8],
-) -> StripOutcome
-    ensures answer { answered_as result ≡ start_answer key.now nonce.now secret.now (first.now ++ second.now)
+// The sealed secret number is written; strips may follow.
+pub fn start(x: Context<'_>, secret: &[u8], out: &mut [u8]) -> StripOutcome
+    ensures answer { answered_as result ≡ start_answer x.entry.key.now x.entry.nonce.now secret.now (associated x.entry)
         out.old }
-    ensures output { out.new ≡ start_output key.now nonce.now secret.now (first.now ++ second.now)
+    ensures output { out.new ≡ start_output x.entry.key.now x.entry.nonce.now secret.now (associated x.entry)
         out.old }
 {
     let mut state = StripState {
@@ -266,7 +257,7 @@ pub fn start(
         count: 0,
         finished: true,
     };
-    let written = start_into(key, nonce, secret, first, second, out, &mut state);
+    let written = start_into(x, secret, out, &mut state);
     StripOutcome { written, state }
 }
 

@@ -15,6 +15,6 @@ use Rattle.blocks.proofs.absorb_associated.Goals as goal
 pub returns : goal.returns
 returns c =
     let a = c.args in
-    let d : Bytes = a.first.now ++ a.second.now in
+    let d : Bytes = a.x.first.now ++ a.x.second.now in
     c.finish.ensures ∙ c.take_blocks-last.ensures.1 1 ∙ associated-taken (8 * a.n) (omega arith) _ _
-    ∙ ap (absorb_associated (8 * a.n) (bytes_of a.s.now)) (take_all (length a.first.now + length a.second.now) d (rw length-append (omega arith)))
+    ∙ ap (absorb_associated (8 * a.n) (bytes_of a.s.now)) (take_all (length a.x.first.now + length a.x.second.now) d (rw length-append (omega arith)))

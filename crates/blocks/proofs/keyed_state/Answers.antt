@@ -16,8 +16,8 @@ pub returns : goal.returns
 unfolding keyed
 returns c =
     let a = c.args in
-    let k = a.key.now in
-    let n = a.nonce.now in
+    let k = a.x.key.now in
+    let n = a.x.nonce.now in
     let e : take (length k + length n) (drop 0 (k ++ n)) ≡ k ++ n = take_all (length k + length n) (k ++ n) (rw length-append (omega arith)) in
     c.permute.ensures
     ∙ ap (permuted 12)

@@ -7,5 +7,5 @@ use Rattle.blocks.proofs.ready.Goals as goal
 pub returns : goal.returns
 returns g c =
     let a = c.args in
-    ready-data a.q c.requires.0 g.met.A.Way.laws a.key.now a.nonce.now (a.first.now ++ a.second.now) a.d.now a.out.now c.requires.4
+    ready-data a.q c.requires.0 g.met.A.Way.laws a.x.key.now a.x.nonce.now (a.x.first.now ++ a.x.second.now) a.d.now a.out.now c.requires.4
     c.keyed_state.ensures c.take_bytes.ensures.0 c.take_bytes.ensures.1 c.finish.ensures c.absorb_associated.ensures

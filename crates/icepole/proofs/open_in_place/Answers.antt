@@ -12,7 +12,7 @@ use Rattle.icepole.proofs.open_in_place.Goals as goal
 pub returns-in_err-released-clause-output : goal.returns-in_err-released-clause-output
 returns-in_err-released-clause-output c =
     let a = c.args in
-    open_stays a.v a.key.now a.nonce.now (a.first.now ++ a.second.now) a.buffer.now true _ c.in_err-released.ensures.answer
+    open_stays a.v a.x.key.now a.x.nonce.now (a.x.first.now ++ a.x.second.now) a.buffer.now true _ c.in_err-released.ensures.answer
     (λ z. let h = positive c.in_err-released.field-0.0 in omega (arith, h, z)) a.buffer.now
 
 pub decrypt_in_place-requires : goal.decrypt_in_place-requires
