@@ -4,12 +4,12 @@ use mathlib.Core.Path.{◌≡◌, refl, sym, ap, ap₂, ◌∙◌}
 use mathlib.Core.List.{[], ◌++◌, append-nil}
 use Prim.Native.Nat.{ℕ, ◌<◌, ◌+◌, ◌-◌, ◌≤◌}
 use native.Mathlib.Omega.{arith}
-use lib.ListN.{length, take, drop, length-drop}
+use lib.ListN.{length, take, drop, length-drop, length-take}
 use lib.Seq.{length-take-le, take_at, drop_at, drop-drop, take_all, take-add}
-use Rattle.bytes_le.specs.Bytes.{Bytes}
+use Rattle.bytes_le.specs.Bytes.{Bytes, put_bytes}
 use Rattle.permutation.specs.State.{State}
 use Rattle.state_bytes.specs.StateBytes.{bytes_of}
-use Rattle.bytes_le.proofs.Laws.{length_part, part-part}
+use Rattle.bytes_le.proofs.Laws.{behind-put, length_part, part-part, take_put}
 use Rattle.state_bytes.proofs.Lengths.{length-bytes}
 use Rattle.blocks.specs.Sealing.{◌⊕₈◌, absorb, finish, xor_with}
 use Rattle.blocks.specs.Ways.{Puts, Room, Takes, put_by, taken_by}
@@ -131,3 +131,13 @@ module _ (taken : Bytes → Bytes → Bytes) (r : ℕ) (hr : 0 < r) (hs : r < 16
 
   pub room_in : (l : ℕ) → at + l ≤ n → length o₁ ≡ length o → Room bytes needs put (from + at) l o₁ (to + at)
   room_in l h = room_left bytes puts from n to o m _ at (length-put_so_far (omega arith)) w.put_so_far l h
+
+-- ---- a block that is copied, for whoever puts a message over its own ciphertext so
+-- b₁ is b with at bytes written at its front. A block of it that begins behind them is copied: it is still that of b
+pub copied : (block b z : Bytes) (at i k j : ℕ) {b₁ block₁ : Bytes} → b₁ ≡ put_bytes b 0 (take at z) → block₁ ≡ put_bytes block 0 (take j (drop i b₁)) → j ≡ k
+    → at ≤ i → i + k ≤ length b → k ≤ length block → take k block₁ ≡ take k (drop i b)
+copied block b z at i k j {b₁} {block₁} eb e ej h hb hk =
+    let l : length (take at z) ≤ at = rw length-take (omega arith) in
+    let d : drop i b₁ ≡ drop i b = ap (drop i) eb ∙ behind-put b 0 (take at z) i (omega arith) (omega arith) in
+    ap (take k) (e ∙ ap₂ (λ (j : ℕ) (d : Bytes). put_bytes block 0 (take j d)) ej d)
+    ∙ take_put block 0 (take k (drop i b)) k (rw (length_part b i k hb) (omega arith)) (omega arith)

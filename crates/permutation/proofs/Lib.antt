@@ -4,6 +4,7 @@ pub mod Tabulate
 pub mod Matrix
 pub mod Alike
 pub mod Rotation
+pub mod Steps
 pub mod SBox
 pub mod WorkedRound
 pub mod AppendixB

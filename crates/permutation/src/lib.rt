@@ -2,7 +2,7 @@
 // What stands in quotes is the paper's. Each step takes the state S by value and returns it; the rounds are done in place.
 #![tactic(auto)]
 
-ghost use Rattle.std.specs.Prelude.{◌≡◌, ◌≤◌, ◌<◌, get_or};
+ghost use Rattle.std.specs.Prelude.{◌≡◌, ◌≤◌, ◌<◌, get_or, min};
 ghost use Rattle.bits.specs.Bits.{word_length};
 ghost use Rattle.permutation.specs.Permutation.{μ, ρ, π, ψ, κ, R, P, constants, rotl, start};
 ghost use Rattle.permutation.specs.Words.{twice_words, times18_words, sum_words, rotl_column, sbox_words};
@@ -42,7 +42,7 @@ const CONSTANTS: [u64; 12] = [
 // The table as the steps take it: by reference, so that a loop over rounds copies it once. It holds the paper's constants, by its type.
 #[derive(Clone, Copy)]
 pub struct RoundConstants {
-    words: [u64; 12],
+    pub words: [u64; 12],
     ghost paper: { words ≡ constants },
 }
 
@@ -257,18 +257,16 @@ pub fn rounds(s: &mut State, n: usize)
 }
 
 // "In the presented algorithm the 6- and 12-round variants (denoted by P_6 and P_12) are used" (003, 2.5): P_6 is permute::<6>, and P_12 permute::<12>. In place, so
-// that callers copy no state.
+// that callers copy no state. More than 12 are 12, as many as have a constant.
 pub fn permute<const N: usize>(s: &mut State)
-    requires { N ≤ 12 }
-    ensures { s.new ≡ P N s.old }
+    ensures { s.new ≡ P (min N 12) s.old }
 {
-    rounds(s, N);
+    rounds(s, N.min(MAX_ROUNDS));
 }
 
 // The same by value.
 pub fn p<const N: usize>(s: State) -> State
-    requires { N ≤ 12 }
-    ensures { result ≡ P N s }
+    ensures { result ≡ P (min N 12) s }
 {
     let mut t = s;
     permute::<N>(&mut t);

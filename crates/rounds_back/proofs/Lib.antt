@@ -2,6 +2,7 @@ pub mod Compose
 pub mod Slices
 pub mod FiveBits
 pub mod Horner
+pub mod InverseMatrix
 pub mod Mixing
 pub mod Turning
 pub mod Places

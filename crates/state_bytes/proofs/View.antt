@@ -63,6 +63,9 @@ state-shaped s w = (
   λ x y. subst⁻¹ (λ (t : State). at t x y < word_range) w.2 (word_below w.0 w.1 x y),
 )
 
+pub state-of-bytes : (s : State) → Shape s → ((x y : ℕ) → at s x y < word_range) → state_of (bytes_of s) ≡ s
+state-of-bytes s h l = state-held s (shaped-state s h l)
+
 -- ---- bytes, and the state that has them
 -- word w of the state whose bytes are v
 pub word-of-bytes : (v : Bytes) (w : ℕ) → w < state_words → word_of (state_of v) w ≡ le_at 8 v (8 * w)

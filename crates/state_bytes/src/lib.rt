@@ -1,7 +1,7 @@
 // The state of ICEPOLE: its words, read and written one by one, with contracts that speak of its bytes. Internal: only crates of ours call these functions.
 #![tactic(auto)]
 
-ghost use Rattle.std.specs.Prelude.{◌≡◌, ◌+◌, ◌*◌, ◌≤◌, ◌<◌, length, take, drop};
+ghost use Rattle.std.specs.Prelude.{◌≡◌, ◌+◌, ◌*◌, ◌≤◌, ◌<◌, length, take, drop, min};
 ghost use Rattle.bytes_le.specs.Bytes.{le, le_at, put_bytes};
 ghost use Rattle.state_bytes.specs.StateBytes.{state_words, state_length, bytes_of, state_of, permuted, start_bytes};
 
@@ -77,8 +77,7 @@ pub fn start(s: &mut State)
 
 // P6 is permute::<6>, and P12 permute::<12>.
 pub fn permute<const N: usize>(s: &mut State)
-    requires { N ≤ 12 }
-    ensures { bytes_of s.new ≡ permuted N (bytes_of s.old) }
+    ensures { bytes_of s.new ≡ permuted (min N 12) (bytes_of s.old) }
 {
     permutation::permute::<N>(s);
 }

@@ -21,12 +21,17 @@ seal-room : (q : Sizes) (k n s a m o o' : ℕ) → q.secret + (m + 16) ≤ o →
 unfolding seal_number
 seal-room q k n s a m o o' h h' = rw (le-ltb o (q.secret + (m + 16)) h, le-ltb o' (q.secret + (m + 16)) h') refl
 
--- the code looks at no more of the output than the secret number takes
+-- where the code looks at all of the output
+pub start-all : (q : Sizes) (k n s a o room : ℕ) → room ≡ o → seal_number q k n s a 0 (room + 16) ≡ start_number q k n s a o
+unfolding start_number
+start-all q k n s a o room e = ap (λ (r : ℕ). seal_number q k n s a 0 (r + 16)) e
+
+-- it looks at no more of it than the secret number takes
 pub start-cut : (q : Sizes) (k n s a o : ℕ) → seal_number q k n s a 0 (min o q.secret + 16) ≡ start_number q k n s a o
 unfolding start_number
 start-cut q k n s a o =
     ⊎_elim (λ h. seal-room q k n s a 0 (min o q.secret + 16) (o + 16) (omega arith) (omega arith))
-    (λ h. ap (λ (r : ℕ). seal_number q k n s a 0 (r + 16)) (min-eq_left {n = o} {m = q.secret} (omega arith))) (le-or-lt q.secret o)
+    (λ h. start-all q k n s a o (min o q.secret) (min-eq_left {n = o} {m = q.secret} (omega arith))) (le-or-lt q.secret o)
 
 pub start_fits : (q : Sizes) (k n s a o : ℕ) → start_number q k n s a o ≡ 0 → SealFits q k n s a 0 (o + 16)
 unfolding start_number
