@@ -15,7 +15,7 @@ ghost use Rattle.blocks.specs.Ways.{Takes, Puts, Room, taken_by, put_by};
 ghost use Rattle.blocks.specs.WayLaws.{seal_takes, open_takes, written_puts, nowhere_puts};
 ghost use Rattle.blocks.specs.Bounds.{Bounded};
 
-// The sizes of a variant, in bytes.
+// The sizes of a variant, in bytes. `Bounded` is no invariant of it: the definitions make sizes as plain records, and each would need the proof.
 #[derive(Clone, Copy)]
 pub struct Sizes {
     pub key: usize,
@@ -329,7 +329,8 @@ fn keyed_state(s: &mut State, x: Context<'_>)
     state_bytes::permute::<12>(s);
 }
 
-// Whether the tag of s stands in c from index at on. All differences are gathered before the one test.
+// Whether the tag of s stands in c from index at on. All differences are gathered before the one test, since an == may end where the first difference stands: tags
+// are compared whole.
 fn tag_matches(s: &State, c: &[u8], at: usize) -> bool
     requires { at + tag_length ≤ length c.now }
     ensures { result ≡ same (tag (bytes_of s.now)) (take tag_length (drop at c.now)) }
@@ -439,13 +440,7 @@ pub fn decrypt_in_place(s: &mut State, n: usize, b: &mut [u8], from: usize, l: u
 
 // ---- whole messages, whose sizes fit
 // The state after the secret number, which is read in d and put into out, at the front of each, and the associated data.
-fn ready<A: Way>(
-    s: &mut State,
-    q: Sizes,
-    x: Context<'_>,
-    d: &[u8],
-    out: &mut [u8],
-)
+fn ready<A: Way>(s: &mut State, q: Sizes, x: Context<'_>, d: &[u8], out: &mut [u8])
     requires { Bounded q × (length x.key.now ≡ q.key) × (length x.nonce.now ≡ q.nonce)
         × (length x.first.now + length x.second.now ≤ max_length) × (q.secret ≤ length d.now) × (q.secret ≤ length out.old) }
     ensures { (bytes_of s.new ≡ ready q.block (keyed x.entry.key.now x.entry.nonce.now)
@@ -460,13 +455,7 @@ fn ready<A: Way>(
 }
 
 // The state after the secret number, which is put into out at its front, sealed, and the associated data.
-pub fn seal_ready(
-    s: &mut State,
-    q: Sizes,
-    x: Context<'_>,
-    secret: &[u8],
-    out: &mut [u8],
-)
+pub fn seal_ready(s: &mut State, q: Sizes, x: Context<'_>, secret: &[u8], out: &mut [u8])
     requires { Bounded q × (length x.key.now ≡ q.key) × (length x.nonce.now ≡ q.nonce) × (length secret.now ≡ q.secret)
         × (length x.first.now + length x.second.now ≤ max_length) × (q.secret ≤ length out.old) }
     ensures { (bytes_of s.new ≡ ready q.block (keyed x.entry.key.now x.entry.nonce.now) secret.now
@@ -477,13 +466,7 @@ pub fn seal_ready(
 }
 
 // Writes the sealed message at the front of out.
-pub fn seal_into(
-    q: Sizes,
-    x: Context<'_>,
-    secret: &[u8],
-    message: &[u8],
-    out: &mut [u8],
-)
+pub fn seal_into(q: Sizes, x: Context<'_>, secret: &[u8], message: &[u8], out: &mut [u8])
     requires { Bounded q × (length x.key.now ≡ q.key) × (length x.nonce.now ≡ q.nonce) × (length secret.now ≡ q.secret)
         × (length x.first.now + length x.second.now ≤ max_length) × (q.secret + (length message.now + tag_length) ≤ length out.old) }
     ensures { out.new ≡ put_bytes out.old 0
@@ -511,13 +494,7 @@ fn tag_agrees(q: Sizes, u: &State, c: &[u8]) -> bool
 }
 
 // Whether the tag of a sealed message agrees. Its secret number is put into secret, and the state after the associated data is left in s.
-pub fn verify_sealed(
-    s: &mut State,
-    q: Sizes,
-    x: Context<'_>,
-    c: &[u8],
-    secret: &mut [u8],
-) -> bool
+pub fn verify_sealed(s: &mut State, q: Sizes, x: Context<'_>, c: &[u8], secret: &mut [u8]) -> bool
     requires { Bounded q × (length x.key.now ≡ q.key) × (length x.nonce.now ≡ q.nonce)
         × (length x.first.now + length x.second.now ≤ max_length) × (q.secret + tag_length ≤ length c.now) × (q.secret ≤ length secret.old) }
     ensures { (result ≡ same (expected_tag q x.entry.key.now x.entry.nonce.now (associated x.entry) c.now)

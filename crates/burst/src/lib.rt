@@ -133,7 +133,7 @@ pub const MARK_BYTES: usize = SECRET_BYTES;
 // Bytes by which sealing lengthens, and bytes of a closing seal.
 pub const SEAL_LENGTH: u32 = (MARK_BYTES + TAG_BYTES) as u32;
 
-// What names a burst under its key: its number, and the camera's, 0 in an edition that has none.
+// What names a burst under its key: its number, and the camera's, 0 in an edition that has none. No Option: the nonce has its four bytes in every edition.
 #[derive(Clone, Copy, Debug, PartialEq, Eq)]
 pub struct Name {
     pub burst_number: u64,
@@ -163,6 +163,7 @@ pub struct Recorder {
     pub used: u32,
     // room for 60, of which the first `kept` count: "It holds .. 60 entries" (01), with no heap
     pub entries: [Entry; MAX_ENTRIES],
+    // no enum: a closed recorder keeps its other fields, which close returns (01), and anybody may make one
     pub closed: bool,
     pub camera: u32,
 }
@@ -444,7 +445,7 @@ pub fn open_part(
     icepole::open_message(Variant::Icepole128, context, sealed, out)
 }
 
-// Puts an entry's bytes into out from index at on; returns the index behind them.
+// Puts an entry's bytes into out from index at on; returns the index behind them. The layout is the file's (01), which no conversion of the library has.
 fn put_entry(out: &mut [u8], at: usize, x: Entry) -> usize
     requires { at + entry_length ≤ length out.old }
     ensures { (result ≡ at + entry_length) × (out.new ≡ put_bytes out.old at (bytes_of_entry x)) }
@@ -619,7 +620,7 @@ impl Recorder {
         next
     }
 
-    // The header of the file, and zeros behind it.
+    // The header of the file, and zeros behind it. No heap: an array that every header has room in.
     fn header(&self) -> [u8; MAX_HEADER]
         requires { (self.now.kept.0 ≤ self.now.taken.0)
             × (self.now.used + entry_length * self.now.kept.0 + seal_length < 256 ^ offset_width) }
@@ -649,7 +650,7 @@ impl Recorder {
         h
     }
 
-    // The index of the file, at the front of what is returned.
+    // The index of the file, at the front of what is returned. No heap: an array that every index has room in.
     fn index(&self) -> [u8; MAX_INDEX]
         requires { self.now.kept.0 ≤ max_entries }
         ensures { (length result ≡ max_index) × (take (entry_length * self.now.kept.0) result ≡ recorder_index self.now) }

@@ -1,4 +1,4 @@
-// The C calls of include/core.h, for those who test the hardware core.
+// What the C calls of include/core.h do, for those who test the hardware core. The exports of `core_lib` make their numbers of it.
 #![tactic(auto)]
 
 ghost use Rattle.std.specs.Prelude.{◌≡◌, length};

@@ -16,7 +16,7 @@ pub use blocks::Context;
 use blocks::Sizes;
 use refusals::Refusal;
 
-#[derive(Clone, Copy)]
+#[derive(Clone, Copy, Debug, PartialEq, Eq)]
 pub enum Variant {
     Icepole128,
     Icepole128a,
@@ -36,7 +36,7 @@ pub const NONCE_BYTES: usize = 16;
 
 pub const SECRET_BYTES: usize = 16;
 
-// What opening releases: the message's length and the secret number. Bytes past the secret number are zero.
+// What opening releases: the message's length and the secret number. Bytes past the secret number are zero: no heap, and room for the longest.
 #[derive(Clone, Copy)]
 pub struct Released {
     pub length: usize,

@@ -167,7 +167,8 @@ fn rho(s: State) -> State
 }
 
 // "Words are moved from S[x][y] to S[x'][y']" (003, 2.5, π), where x' = (x + y) mod 4 and y' = (x' + y + 1) mod 5. The place (x', y') below names the word that
-// comes to it: y = (y' - x' - 1) mod 5, and x = (x' - y) mod 4.
+// comes to it: y = (y' - x' - 1) mod 5, and x = (x' - y) mod 4. Written out, as the paper's places, and not one function with pi undone over a table: a table
+// would be looked up as the program runs.
 fn pi(s: State) -> State
     ensures { result ≡ π s }
 {

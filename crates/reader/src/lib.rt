@@ -44,7 +44,7 @@ pub struct Picture {
     pub length: u32,
 }
 
-// A count of the file, and an offset or a length of it.
+// A count of the file, and an offset or a length of it: two widths and two types, for which one generic function would need a trait of its own.
 fn count_at(f: &[u8], at: usize) -> u16
     requires { at + count_width ≤ length f.now }
     ensures { result ≡ le_at count_width f.now at }

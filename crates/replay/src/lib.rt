@@ -98,7 +98,7 @@ fn put_answer(answers: &mut [u8], at: usize, number: u32, value: u32)
     bytes_le::store_le(answers, next, NUMBER_WIDTH, value as u64);
 }
 
-// How many answers were written, and whether the whole script was performed.
+// How many answers were written, and whether the whole script was performed: two facts, of which each is told whatever the other is.
 #[derive(Clone, Copy)]
 pub struct Performed {
     pub count: usize,

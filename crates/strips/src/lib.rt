@@ -127,7 +127,8 @@ fn feed_block(b: &mut StateBytes, fill: usize, m: &[u8], out: &mut [u8])
     }
 }
 
-// Seals the bytes of m from index at on, at most a block, where one begins. The block waits: b gets the state's bytes with it.
+// Seals the bytes of m from index at on, at most a block, where one begins. The block waits: b gets the state's bytes with it. An index and no slice: the words of
+// `blocks` are put at an index of out too.
 fn feed_last(s: &mut State, m: &[u8], at: usize, out: &mut [u8], b: &mut StateBytes)
     requires { (at ≤ length m.now) × (length m.now ≤ at + block) × (length m.now ≤ length out.old) }
     ensures { (b.new ≡ (fed block (held (bytes_of s.old) 0) (drop at m.now)).state)
