@@ -7,7 +7,6 @@ ghost use Rattle.bytes_le.specs.Bytes.{le_at, put_bytes};
 ghost use Rattle.burst.specs.Fields.{count_width, offset_width, fields_length, entry_length};
 ghost use Rattle.burst.specs.Editions.{max_entries, max_header, Known};
 ghost use Rattle.burst.specs.Parts.{seal_length, key_length};
-ghost use Rattle.burst.specs.Layout.{max_picture};
 ghost use Rattle.burst.specs.Index.{index_rules};
 ghost use Rattle.reader.specs.Front.{header_in, kept_in, index_offset_in, position_of, entry_at, entries_at, edition_in, camera_of, name_in, rest_rules, front_rules};
 ghost use Rattle.icepole.specs.Answers.{opened_as};

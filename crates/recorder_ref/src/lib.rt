@@ -4,7 +4,7 @@
 ghost use Rattle.std.specs.Prelude.{◌≡◌};
 ghost use Rattle.burst.specs.Recorder.{shot_as, drop_answer};
 
-use burst::{Outcome, Recorder, Shot};
+use burst::{Recorder, Shot};
 use refusals::Refusal;
 
 // The by-value drop, with its recorder left in the lent one. A refused drop leaves that as it was.
