@@ -1,4 +1,4 @@
-// The C calls of include/burst.h and include/card.h.
+// The C calls of include/burst.h and include/card.h. Each answers a refusal number, 0 when done, and writes the rest into what is lent: the C interface.
 #![tactic(auto)]
 
 ghost use Rattle.std.specs.Prelude.{◌≡◌, cond, ◌≤◌, length, Ok};

@@ -170,7 +170,7 @@ pub enum Direction {
     Forward,
 }
 
-// The first n rounds, one way or the other.
+// The first n rounds, one way or the other. A match and no closure: which way is a value of the caller's, of two.
 fn run(mut s: State, direction: Direction, n: usize) -> State
     requires { n ≤ max_rounds }
     ensures { result ≡ ran direction n s }
