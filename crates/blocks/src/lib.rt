@@ -7,7 +7,7 @@ ghost use Rattle.std.specs.Prelude.{◌≡◌, ◌++◌, ◌+◌, ◌*◌, ◌^�
 ghost use Rattle.bits.specs.Bits.{word_range};
 ghost use Rattle.bytes_le.specs.Bytes.{Bytes, le, put_bytes, same};
 ghost use Rattle.state_bytes.specs.StateBytes.{state_words, state_length, bytes_of};
-ghost use Rattle.blocks.specs.Contexts.{associated};
+ghost use Rattle.blocks.specs.Contexts.{associated, lengths_of};
 ghost use Rattle.blocks.specs.Lengths.{tag_length, max_key, max_nonce, max_length};
 ghost use Rattle.blocks.specs.Sealing.{◌⊕₈◌, xor_with, keyed, finish, absorb_associated, absorb_message, encrypt, decrypt};
 ghost use Rattle.blocks.specs.Sealing.{ready, sealed, secret_of, ready_of, expected_tag, tag, message_part, tag_part};
@@ -31,6 +31,28 @@ pub struct Context<'a> {
     pub nonce: &'a [u8],
     pub first: &'a [u8],
     pub second: &'a [u8],
+}
+
+// The lengths of a context's parts.
+#[derive(Clone, Copy)]
+pub struct Lengths {
+    pub key: usize,
+    pub nonce: usize,
+    pub first: usize,
+    pub second: usize,
+}
+
+impl Context<'_> {
+    pub fn lengths(self) -> Lengths
+        ensures { result ≡ lengths_of self.entry }
+    {
+        Lengths {
+            key: self.key.len(),
+            nonce: self.nonce.len(),
+            first: self.first.len(),
+            second: self.second.len(),
+        }
+    }
 }
 
 // Bytes of the tag, under every variant.
@@ -439,13 +461,7 @@ pub fn decrypt_in_place(s: &mut State, n: usize, b: &mut [u8], from: usize, l: u
 
 // ---- whole messages, whose sizes fit
 // The state after the secret number, which is read in d and put into out, at the front of each, and the associated data.
-fn ready<A: Way>(
-    s: &mut State,
-    q: Sizes,
-    x: Context<'_>,
-    d: &[u8],
-    out: &mut [u8],
-)
+fn ready<A: Way>(s: &mut State, q: Sizes, x: Context<'_>, d: &[u8], out: &mut [u8])
     requires { Bounded q × (length x.key.now ≡ q.key) × (length x.nonce.now ≡ q.nonce)
         × (length x.first.now + length x.second.now ≤ max_length) × (q.secret ≤ length d.now) × (q.secret ≤ length out.old) }
     ensures { (bytes_of s.new ≡ ready q.block (keyed x.entry.key.now x.entry.nonce.now)
@@ -460,13 +476,7 @@ fn ready<A: Way>(
 }
 
 // The state after the secret number, which is put into out at its front, sealed, and the associated data.
-pub fn seal_ready(
-    s: &mut State,
-    q: Sizes,
-    x: Context<'_>,
-    secret: &[u8],
-    out: &mut [u8],
-)
+pub fn seal_ready(s: &mut State, q: Sizes, x: Context<'_>, secret: &[u8], out: &mut [u8])
     requires { Bounded q × (length x.key.now ≡ q.key) × (length x.nonce.now ≡ q.nonce) × (length secret.now ≡ q.secret)
         × (length x.first.now + length x.second.now ≤ max_length) × (q.secret ≤ length out.old) }
     ensures { (bytes_of s.new ≡ ready q.block (keyed x.entry.key.now x.entry.nonce.now) secret.now
@@ -477,13 +487,7 @@ pub fn seal_ready(
 }
 
 // Writes the sealed message at the front of out.
-pub fn seal_into(
-    q: Sizes,
-    x: Context<'_>,
-    secret: &[u8],
-    message: &[u8],
-    out: &mut [u8],
-)
+pub fn seal_into(q: Sizes, x: Context<'_>, secret: &[u8], message: &[u8], out: &mut [u8])
     requires { Bounded q × (length x.key.now ≡ q.key) × (length x.nonce.now ≡ q.nonce) × (length secret.now ≡ q.secret)
         × (length x.first.now + length x.second.now ≤ max_length) × (q.secret + (length message.now + tag_length) ≤ length out.old) }
     ensures { out.new ≡ put_bytes out.old 0
@@ -511,13 +515,7 @@ fn tag_agrees(q: Sizes, u: &State, c: &[u8]) -> bool
 }
 
 // Whether the tag of a sealed message agrees. Its secret number is put into secret, and the state after the associated data is left in s.
-pub fn verify_sealed(
-    s: &mut State,
-    q: Sizes,
-    x: Context<'_>,
-    c: &[u8],
-    secret: &mut [u8],
-) -> bool
+pub fn verify_sealed(s: &mut State, q: Sizes, x: Context<'_>, c: &[u8], secret: &mut [u8]) -> bool
     requires { Bounded q × (length x.key.now ≡ q.key) × (length x.nonce.now ≡ q.nonce)
         × (length x.first.now + length x.second.now ≤ max_length) × (q.secret + tag_length ≤ length c.now) × (q.secret ≤ length secret.old) }
     ensures { (result ≡ same (expected_tag q x.entry.key.now x.entry.nonce.now (associated x.entry) c.now)
