@@ -7,7 +7,7 @@ ghost use Rattle.std.specs.Prelude.{◌≡◌, ◌++◌, ◌+◌, ◌*◌, ◌^�
 ghost use Rattle.bits.specs.Bits.{word_range};
 ghost use Rattle.bytes_le.specs.Bytes.{Bytes, le, put_bytes, same};
 ghost use Rattle.state_bytes.specs.StateBytes.{state_words, state_length, bytes_of};
-ghost use Rattle.blocks.specs.Contexts.{associated};
+ghost use Rattle.blocks.specs.Contexts.{associated, lengths_of};
 ghost use Rattle.blocks.specs.Lengths.{tag_length, max_key, max_nonce, max_length};
 ghost use Rattle.blocks.specs.Sealing.{◌⊕₈◌, xor_with, keyed, finish, absorb_associated, absorb_message, encrypt, decrypt};
 ghost use Rattle.blocks.specs.Sealing.{ready, sealed, secret_of, ready_of, expected_tag, tag, message_part, tag_part};
@@ -31,6 +31,28 @@ pub struct Context<'a> {
     pub nonce: &'a [u8],
     pub first: &'a [u8],
     pub second: &'a [u8],
+}
+
+// The lengths of a context's parts.
+#[derive(Clone, Copy)]
+pub struct Lengths {
+    pub key: usize,
+    pub nonce: usize,
+    pub first: usize,
+    pub second: usize,
+}
+
+impl Context<'_> {
+    pub fn lengths(self) -> Lengths
+        ensures { result ≡ lengths_of self.entry }
+    {
+        Lengths {
+            key: self.key.len(),
+            nonce: self.nonce.len(),
+            first: self.first.len(),
+            second: self.second.len(),
+        }
+    }
 }
 
 // Bytes of the tag, under every variant.

@@ -12,8 +12,8 @@ ghost use Rattle.blocks.specs.Bounds.{Bounded};
 ghost use Rattle.icepole.specs.Variants.{sizes};
 ghost use Rattle.icepole.specs.Answers.{seal_number, open_number, sealed_as, seal_answer, seal_output, opened_as, open_answer, open_output, fits_output};
 
-pub use blocks::Context;
 use blocks::Sizes;
+pub use blocks::{Context, Lengths};
 use refusals::Refusal;
 
 #[derive(Clone, Copy, Debug, PartialEq, Eq)]
@@ -74,31 +74,28 @@ pub fn sizes_of(v: Variant) -> Sizes
 // Whether sealing is turned down, from the lengths of what is lent.
 pub fn may_seal(
     v: Variant,
-    key: usize,
-    nonce: usize,
+    l: Lengths,
     secret: usize,
-    first: usize,
-    second: usize,
     message: usize,
     out: usize,
 ) -> Result<(), Refusal>
-    ensures number { number_of result ≡ seal_number (sizes v) key nonce secret (first + second) message out }
+    ensures number { number_of result ≡ seal_number (sizes v) l.key l.nonce secret (l.first + l.second) message out }
     ensures mark { mark_of result ≡ 0 }
 {
     let q = sizes_of(v);
-    if key != q.key {
+    if l.key != q.key {
         return Err(Refusal::KeyLength);
     }
-    if nonce != q.nonce {
+    if l.nonce != q.nonce {
         return Err(Refusal::NonceLength);
     }
     if secret != q.secret {
         return Err(Refusal::SecretLength);
     }
-    if first > MAX_LENGTH {
+    if l.first > MAX_LENGTH {
         return Err(Refusal::DataTooLong);
     }
-    if second > MAX_LENGTH - first {
+    if l.second > MAX_LENGTH - l.first {
         return Err(Refusal::DataTooLong);
     }
     if message > MAX_LENGTH {
@@ -111,29 +108,21 @@ pub fn may_seal(
 }
 
 // Whether opening is turned down where the tag agrees, from the lengths of what is lent, and whether the answer fits.
-pub fn may_open(
-    v: Variant,
-    key: usize,
-    nonce: usize,
-    first: usize,
-    second: usize,
-    sealed: usize,
-    fits: bool,
-) -> Result<(), Refusal>
-    ensures number { number_of result ≡ open_number (sizes v) key nonce (first + second) sealed fits true }
+pub fn may_open(v: Variant, l: Lengths, sealed: usize, fits: bool) -> Result<(), Refusal>
+    ensures number { number_of result ≡ open_number (sizes v) l.key l.nonce (l.first + l.second) sealed fits true }
     ensures mark { mark_of result ≡ 0 }
 {
     let q = sizes_of(v);
-    if key != q.key {
+    if l.key != q.key {
         return Err(Refusal::KeyLength);
     }
-    if nonce != q.nonce {
+    if l.nonce != q.nonce {
         return Err(Refusal::NonceLength);
     }
-    if first > MAX_LENGTH {
+    if l.first > MAX_LENGTH {
         return Err(Refusal::DataTooLong);
     }
-    if second > MAX_LENGTH - first {
+    if l.second > MAX_LENGTH - l.first {
         return Err(Refusal::DataTooLong);
     }
     let over = q.secret + TAG_BYTES;
@@ -175,16 +164,7 @@ pub fn seal(
         (associated x.entry) message.now out.old }
 {
     let q = sizes_of(v);
-    may_seal(
-        v,
-        x.key.len(),
-        x.nonce.len(),
-        secret.len(),
-        x.first.len(),
-        x.second.len(),
-        message.len(),
-        out.len(),
-    )?;
+    may_seal(v, x.lengths(), secret.len(), message.len(), out.len())?;
     blocks::seal_into(q, x, secret, message, out);
     Ok(q.secret + (message.len() + TAG_BYTES))
 }
@@ -203,15 +183,7 @@ fn open_verified(
         ≡ ready_of (sizes v) x.entry.key.now x.entry.nonce.now (associated x.entry) sealed.now }
 {
     let q = sizes_of(v);
-    may_open(
-        v,
-        x.key.len(),
-        x.nonce.len(),
-        x.first.len(),
-        x.second.len(),
-        sealed.len(),
-        fits,
-    )?;
+    may_open(v, x.lengths(), sealed.len(), fits)?;
     let mut secret = [0u8; SECRET_BYTES];
     let agrees = blocks::verify_sealed(state, q, x, sealed, &mut secret);
     if !agrees {

@@ -66,24 +66,16 @@ pub fn open(
     ensures { OpenContract v key.now nonce.now
         (first.now ++ second.now) sealed.now out.old info.old result out.new info.new }
 {
-    let n = icepole::sizes_of(v).secret;
-    if info.len() < SECRET_AT + n {
-        return refusals::number_of(&icepole::may_open(
-            v,
-            key.len(),
-            nonce.len(),
-            first.len(),
-            second.len(),
-            sealed.len(),
-            false,
-        ));
-    }
     let context = Context {
         key,
         nonce,
         first,
         second,
     };
+    let n = icepole::sizes_of(v).secret;
+    if info.len() < SECRET_AT + n {
+        return refusals::number_of(&icepole::may_open(v, context.lengths(), sealed.len(), false));
+    }
     let opened = icepole::open_message(v, context, sealed, out);
     put_info(&opened, n, info);
     refusals::number_of(&opened)
@@ -101,24 +93,16 @@ pub fn open_in_place(
     ensures { InPlaceContract v key.now nonce.now
         (first.now ++ second.now) buffer.old info.old result buffer.new info.new }
 {
-    let secret_length = icepole::sizes_of(v).secret;
-    if info.len() < SECRET_AT + secret_length {
-        return refusals::number_of(&icepole::may_open(
-            v,
-            key.len(),
-            nonce.len(),
-            first.len(),
-            second.len(),
-            buffer.len(),
-            false,
-        ));
-    }
     let context = Context {
         key,
         nonce,
         first,
         second,
     };
+    let secret_length = icepole::sizes_of(v).secret;
+    if info.len() < SECRET_AT + secret_length {
+        return refusals::number_of(&icepole::may_open(v, context.lengths(), buffer.len(), false));
+    }
     let opened = icepole::open_in_place(v, context, buffer);
     put_info(&opened, secret_length, info);
     refusals::number_of(&opened)
@@ -169,26 +153,19 @@ pub fn start(
     ensures { StartContract key.now nonce.now secret.now
         (first.now ++ second.now) out.old state.old result out.new state.new }
 {
-    if state.len() < STRIP_STATE_LENGTH {
-        let may = strips::may_start(
-            key.len(),
-            nonce.len(),
-            secret.len(),
-            first.len(),
-            second.len(),
-            out.len(),
-        );
-        if let Err(refusal) = may {
-            return refusal.number();
-        }
-        return Refusal::OutputTooShort.number();
-    }
     let context = Context {
         key,
         nonce,
         first,
         second,
     };
+    if state.len() < STRIP_STATE_LENGTH {
+        let may = strips::may_start(context.lengths(), secret.len(), out.len());
+        if let Err(refusal) = may {
+            return refusal.number();
+        }
+        return Refusal::OutputTooShort.number();
+    }
     let started = strips::start(context, secret, out);
     put_strip_state(started.state, state);
     refusals::number_of(&started.written)

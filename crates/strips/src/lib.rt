@@ -14,7 +14,7 @@ ghost use Rattle.strips.specs.Machine.{held, fed, fed_bytes, fill_of};
 ghost use Rattle.strips.specs.Answers.{block, start_number, strip_number, end_number, call_as, answered_as, not_started, start_answer, start_output, strip_answer, strip_output, end_answer, end_output};
 
 use blocks::{BLOCK_BYTES, BLOCK_WORDS};
-use icepole::{Context, MAX_LENGTH, SECRET_BYTES, TAG_BYTES, Variant};
+use icepole::{Context, Lengths, MAX_LENGTH, SECRET_BYTES, TAG_BYTES, Variant};
 use refusals::Refusal;
 use state_bytes::STATE_BYTES;
 
@@ -43,28 +43,12 @@ pub struct StripOutcome {
 // ---- whether a call is turned down, from the lengths of what is lent
 // A start is turned down as sealing no message is, but needs no room for the tag. An output longer than the secret number is as good as one of that length, to
 // which the tag's can be added without wrapping.
-pub fn may_start(
-    key: usize,
-    nonce: usize,
-    secret: usize,
-    first: usize,
-    second: usize,
-    out: usize,
-) -> Result<(), Refusal>
-    ensures number { number_of result ≡ start_number (sizes Icepole128) key nonce secret (first + second) out }
+pub fn may_start(l: Lengths, secret: usize, out: usize) -> Result<(), Refusal>
+    ensures number { number_of result ≡ start_number (sizes Icepole128) l.key l.nonce secret (l.first + l.second) out }
     ensures mark { mark_of result ≡ 0 }
 {
     let room = out.min(SECRET_BYTES);
-    icepole::may_seal(
-        Variant::Icepole128,
-        key,
-        nonce,
-        secret,
-        first,
-        second,
-        0,
-        room + TAG_BYTES,
-    )
+    icepole::may_seal(Variant::Icepole128, l, secret, 0, room + TAG_BYTES)
 }
 
 fn may_strip(finished: bool, count: usize, message: usize, out: usize) -> Result<(), Refusal>
@@ -207,14 +191,7 @@ fn start_into(
     ensures answer { call_as result state.new ≡ start_answer x.entry.key.now x.entry.nonce.now secret.now (associated x.entry) out.old }
     ensures output { out.new ≡ start_output x.entry.key.now x.entry.nonce.now secret.now (associated x.entry) out.old }
 {
-    may_start(
-        x.key.len(),
-        x.nonce.len(),
-        secret.len(),
-        x.first.len(),
-        x.second.len(),
-        out.len(),
-    )?;
+    may_start(x.lengths(), secret.len(), out.len())?;
     let q = icepole::sizes_of(Variant::Icepole128);
     let mut ready = [[0u64; 5]; 4];
     blocks::seal_ready(&mut ready, q, x, secret, out);

@@ -13,20 +13,20 @@ use Rattle.icepole.proofs.may_open.Goals as goal
 use Rattle.icepole.proofs.may_open.Goals.{After-sizes_of-q}
 
 -- the sizes that the code has are the variant's
-by-sizes : (c : After-sizes_of-q) {num : ℕ} → let a = c.args in num ≡ open_number c.sizes_of-q.result a.key a.nonce (a.first + a.second) a.sealed a.fits true → num ≡ open_number (sizes a.v) a.key a.nonce (a.first + a.second) a.sealed a.fits true
-by-sizes c e = let a = c.args in e ∙ ap (λ (q : Sizes). open_number q a.key a.nonce (a.first + a.second) a.sealed a.fits true) c.sizes_of-q.ensures
+by-sizes : (c : After-sizes_of-q) {num : ℕ} → let a = c.args in num ≡ open_number c.sizes_of-q.result a.l.key a.l.nonce (a.l.first + a.l.second) a.sealed a.fits true → num ≡ open_number (sizes a.v) a.l.key a.l.nonce (a.l.first + a.l.second) a.sealed a.fits true
+by-sizes c e = let a = c.args in e ∙ ap (λ (q : Sizes). open_number q a.l.key a.l.nonce (a.l.first + a.l.second) a.sealed a.fits true) c.sizes_of-q.ensures
 
-pub returns-then-key-q-clause-number : goal.returns-then-key-q-clause-number
-returns-then-key-q-clause-number c = by-sizes (goal.at.returns-then-key-q-clause-number c).After-sizes_of-q (open-1 _ _ _ _ _ _ (λ e. omega arith))
+pub returns-then-l-q-clause-number : goal.returns-then-l-q-clause-number
+returns-then-l-q-clause-number c = by-sizes (goal.at.returns-then-l-q-clause-number c).After-sizes_of-q (open-1 _ _ _ _ _ _ (λ e. omega arith))
 
-pub returns-then-nonce-q-clause-number : goal.returns-then-nonce-q-clause-number
-returns-then-nonce-q-clause-number c = by-sizes (goal.at.returns-then-nonce-q-clause-number c).After-sizes_of-q (open-2 _ _ _ _ _ _ (omega arith) (λ e. omega arith))
+pub returns-then-l-q-2-clause-number : goal.returns-then-l-q-2-clause-number
+returns-then-l-q-2-clause-number c = by-sizes (goal.at.returns-then-l-q-2-clause-number c).After-sizes_of-q (open-2 _ _ _ _ _ _ (omega arith) (λ e. omega arith))
 
-pub returns-then-first-gt-MAX_LENGTH-clause-number : goal.returns-then-first-gt-MAX_LENGTH-clause-number
-returns-then-first-gt-MAX_LENGTH-clause-number c = by-sizes (goal.at.returns-then-first-gt-MAX_LENGTH-clause-number c).After-sizes_of-q (open-4 _ _ _ _ _ _ (omega arith) (omega arith) (omega arith))
+pub returns-then-l-gt-MAX_LENGTH-clause-number : goal.returns-then-l-gt-MAX_LENGTH-clause-number
+returns-then-l-gt-MAX_LENGTH-clause-number c = by-sizes (goal.at.returns-then-l-gt-MAX_LENGTH-clause-number c).After-sizes_of-q (open-4 _ _ _ _ _ _ (omega arith) (omega arith) (omega arith))
 
-pub returns-then-second-first-clause-number : goal.returns-then-second-first-clause-number
-returns-then-second-first-clause-number c = by-sizes (goal.at.returns-then-second-first-clause-number c).After-sizes_of-q (open-4 _ _ _ _ _ _ (omega arith) (omega arith) (omega arith))
+pub returns-then-l-clause-number : goal.returns-then-l-clause-number
+returns-then-l-clause-number c = by-sizes (goal.at.returns-then-l-clause-number c).After-sizes_of-q (open-4 _ _ _ _ _ _ (omega arith) (omega arith) (omega arith))
 
 pub overflow_add-over : goal.overflow_add-over
 overflow_add-over c = search rules

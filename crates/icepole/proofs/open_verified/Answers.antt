@@ -13,23 +13,23 @@ returns-in_err-may_open-clause-answer c =
     let a = c.args in
     let m = c.in_err-may_open.ensures in
     ap opened_as (passed-on _ _ c.from_residual.ensures.1)
-    ∙ open-refused a.v a.x.key.now a.x.nonce.now a.x.first.now a.x.second.now a.sealed.now a.fits _ m.number m.mark
+    ∙ open-refused a.v a.x.key.now a.x.nonce.now a.x.first.now a.x.second.now a.sealed.now a.fits _ (rw c.lengths.ensures at m.number) m.mark
 
 pub verify_sealed-agrees-requires : goal.verify_sealed-agrees-requires
 verify_sealed-agrees-requires c =
     let h = bounded c.args.v in
-    let w = open-fits _ _ _ _ _ _ _ (sym c.in_ok-may_open.ensures.number) in
+    let w = open-fits _ _ _ _ _ _ _ (sym (rw c.lengths.ensures at c.in_ok-may_open.ensures.number)) in
     rw c.sizes_of-q.ensures (h, w.key, w.nonce, w.associated, w.sealed, h.secret)
 
 pub returns-then-not-agrees-clause-answer : goal.returns-then-not-agrees-clause-answer
 returns-then-not-agrees-clause-answer c =
     let a = c.args in
     let t = agrees-by a.v _ c.sizes_of-q.ensures _ _ _ _ _ c.verify_sealed-agrees.ensures.0 in
-    open-differs a.v a.x.key.now a.x.nonce.now a.x.first.now a.x.second.now a.sealed.now a.fits c.in_ok-may_open.ensures.number (sym t ∙ c.if-not-agrees.true)
+    open-differs a.v a.x.key.now a.x.nonce.now a.x.first.now a.x.second.now a.sealed.now a.fits (rw c.lengths.ensures at c.in_ok-may_open.ensures.number) (sym t ∙ c.if-not-agrees.true)
 
 pub overflow_sub-result : goal.overflow_sub-result
 overflow_sub-result c =
-    let w = open-fits _ _ _ _ _ _ _ (sym c.in_ok-may_open.ensures.number) in
+    let w = open-fits _ _ _ _ _ _ _ (sym (rw c.lengths.ensures at c.in_ok-may_open.ensures.number)) in
     rw c.sizes_of-q.ensures w.sealed
 
 pub returns-clause-answer : goal.returns-clause-answer
@@ -38,5 +38,5 @@ returns-clause-answer c =
     let o = c.verify_sealed-agrees in
     let t = agrees-by a.v _ c.sizes_of-q.ensures _ _ _ _ _ o.ensures.0 in
     rw c.sizes_of-q.ensures
-    (open_done a.v a.x.key.now a.x.nonce.now a.x.first.now a.x.second.now a.sealed.now a.fits c.in_ok-may_open.ensures.number (sym t ∙ c.if-not-agrees.false) _
+    (open_done a.v a.x.key.now a.x.nonce.now a.x.first.now a.x.second.now a.sealed.now a.fits (rw c.lengths.ensures at c.in_ok-may_open.ensures.number) (sym t ∙ c.if-not-agrees.false) _
     (rw c.sizes_of-q.ensures at o.ensures.2))

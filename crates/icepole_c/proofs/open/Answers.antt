@@ -11,7 +11,7 @@ returns-then-info-n c =
     let h = rw c.sizes_of-n.ensures at c.if-info-n.true in
     let m = c.may_open.ensures in
     rw c.number_of.ensures
-    (short-call a.v a.key.now a.nonce.now a.first.now a.second.now a.sealed.now a.out.now a.info.now _ (omega (arith, h)) m.number m.mark)
+    (short-call a.v a.key.now a.nonce.now a.first.now a.second.now a.sealed.now a.out.now a.info.now _ (omega (arith, h)) (rw c.lengths.ensures at m.number) m.mark)
 
 pub returns : goal.returns
 returns c =

@@ -15,7 +15,7 @@ returns-then-info-secret_length c =
     let h = rw c.sizes_of-secret_length.ensures at c.if-info-secret_length.true in
     let m = c.may_open.ensures in
     rw c.number_of.ensures
-    (short-call a.v a.key.now a.nonce.now a.first.now a.second.now a.buffer.now a.buffer.now a.info.now _ (omega (arith, h)) m.number m.mark)
+    (short-call a.v a.key.now a.nonce.now a.first.now a.second.now a.buffer.now a.buffer.now a.info.now _ (omega (arith, h)) (rw c.lengths.ensures at m.number) m.mark)
 
 pub returns : goal.returns
 returns c =

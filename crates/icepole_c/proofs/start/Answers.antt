@@ -12,7 +12,7 @@ returns-in-Err c =
     rw c.number.ensures
     (start-short-refused a.key.now a.nonce.now a.secret.now (a.first.now ++ a.second.now) a.out.now a.state.now
     c.if-state-lt-STRIP_STATE_LENGTH.true _
-    (start-number-of a.key.now a.nonce.now a.secret.now a.first.now a.second.now a.out.now _ c.in-Err.ensures.number) (nonzero c.in-Err.refusal))
+    (start-number-of a.key.now a.nonce.now a.secret.now a.first.now a.second.now a.out.now _ (rw c.lengths.ensures at c.in-Err.ensures.number)) (nonzero c.in-Err.refusal))
 
 pub returns-then-state-lt-STRIP_STATE_LENGTH : goal.returns-then-state-lt-STRIP_STATE_LENGTH
 returns-then-state-lt-STRIP_STATE_LENGTH c =
@@ -20,7 +20,7 @@ returns-then-state-lt-STRIP_STATE_LENGTH c =
     rw c.number-then-state-lt-STRIP_STATE_LENGTH.ensures
     (start-short a.key.now a.nonce.now a.secret.now (a.first.now ++ a.second.now) a.out.now a.state.now
     c.if-state-lt-STRIP_STATE_LENGTH.true 0
-    (start-number-of a.key.now a.nonce.now a.secret.now a.first.now a.second.now a.out.now 0 c.in_default.ensures.number) refl)
+    (start-number-of a.key.now a.nonce.now a.secret.now a.first.now a.second.now a.out.now 0 (rw c.lengths.ensures at c.in_default.ensures.number)) refl)
 
 pub returns : goal.returns
 returns c =

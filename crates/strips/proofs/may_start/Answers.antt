@@ -12,5 +12,5 @@ pub returns-clause-number : goal.returns-clause-number
 returns-clause-number c =
     let a = c.args in
     c.may_seal.ensures.number
-    ∙ ap (λ (r : ℕ). seal_number (sizes Icepole128) a.key a.nonce a.secret (a.first + a.second) 0 (r + 16)) c.min-room.ensures
+    ∙ ap (λ (r : ℕ). seal_number (sizes Icepole128) a.l.key a.l.nonce a.secret (a.l.first + a.l.second) 0 (r + 16)) c.min-room.ensures
     ∙ start-cut (sizes Icepole128) _ _ _ _ _
