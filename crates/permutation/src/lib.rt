@@ -262,7 +262,7 @@ pub fn rounds(s: &mut State, n: usize)
 pub fn permute<const N: usize>(s: &mut State)
     ensures { s.new ≡ P (min N 12) s.old }
 {
-    rounds(s, N.min(MAX_ROUNDS));
+    rounds(s, if N > MAX_ROUNDS { MAX_ROUNDS } else { N });
 }
 
 // The same by value.
