@@ -44,7 +44,7 @@ pub record RoundsBack : Type 0 where
   pub just_one : (r : ℕ) (wanted : State) → IsState wanted
       → (s : State) × IsState s × (P r s ≡ wanted) × ((t : State) → IsState t → P r t ≡ wanted → t ≡ s)
   pub unique : (r : ℕ) (s t : State) → IsState s → IsState t → P r s ≡ P r t → s ≡ t
-  -- the states of which all this speaks are those that the program holds: Shape and bound are what the type [[u64; 5]; 4] tells (`told` in `crates/state_bytes/proofs/View.antt`)
+  -- the states of which all this speaks are those that the program holds: Shape and bound are what the type [[u64; 5]; 4] tells (`held` of `rounds_back::drive`)
   pub states : (s : State) → IsState s ↔ (Shape s × ((x y : ℕ) → at s x y < word_range))
   -- ---- the calls: "From a wanted state and r from 0 to 12, give the state from which r rounds, constants from 0, reach it"
   pub gives : (wanted : State) → IsState wanted → (r : ℕ) → r ≤ 12

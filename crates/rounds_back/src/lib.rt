@@ -2,8 +2,11 @@
 // step, in the paper's order, then of the round and of the rounds, and the call.
 #![tactic(auto)]
 
-ghost use Rattle.std.specs.Prelude.{◌≡◌, ◌≤◌, ◌<◌, [], ◌∷◌};
+ghost use Rattle.std.specs.Prelude.{◌≡◌, ◌≤◌, ◌<◌, [], ◌∷◌, ℕ};
+ghost use Rattle.bits.specs.Bits.{word_range};
 ghost use Rattle.permutation.specs.Permutation.{max_rounds, P};
+ghost use Rattle.permutation.specs.State.{at};
+ghost use Rattle.state_bytes.specs.StateBytes.{Shape};
 ghost use Rattle.rounds_back.specs.Inverse.{μ⁻¹, ρ⁻¹, π⁻¹, ψ⁻¹, R⁻¹, P⁻¹};
 ghost use Rattle.rounds_back.specs.Driven.{ran, driven, answered};
 ghost use Rattle.rounds_back.specs.Words.{times_a_plus_words, digit_times_words, row_words, sbox⁻¹Words};
@@ -185,9 +188,10 @@ fn run(mut s: State, direction: Direction, n: usize) -> State
 }
 
 // Back: the one state from which r rounds, constants from 0, reach s (02, N10). Forward: the state that they reach from s, within the same limits. Given as its
-// bytes in word order.
+// bytes in word order. `held`: what its type tells of a state, so that the claim `RoundsBack` speaks of every state that the program can hold.
 pub fn drive(s: State, direction: Direction, r: u32) -> Result<[u8; STATE_BYTES], Refusal>
-    ensures { answered result ≡ driven direction s r }
+    ensures answer { answered result ≡ driven direction s r }
+    ensures held { Shape s × ((x y : ℕ) → at s x y < word_range) }
 {
     if r as usize > MAX_ROUNDS {
         return Err(Refusal::TooManyRounds);

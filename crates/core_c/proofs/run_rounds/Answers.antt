@@ -36,14 +36,14 @@ pub returns-in_err-reached : goal.returns-in_err-reached
 returns-in_err-reached c =
     let h = room (goal.at.returns-in_err-reached c).In_ok-rounds_refusal in
     let a = c.args in
-    let e = ap (λ (d : Driven). d.refusal) (c.in_err-reached.ensures ∙ driven-within a.direction c.state_in-s.result a.rounds h.0) in
+    let e = ap (λ (d : Driven). d.refusal) (c.in_err-reached.ensures.answer ∙ driven-within a.direction c.state_in-s.result a.rounds h.0) in
     let q = positive c.in_err-reached.field-0.0 in
     absurd (omega arith)
 
 -- the bytes that it answers
 reached : (c : In_ok-reached) → c.args.rounds ≤ max_rounds → let a = c.args in
     c.in_ok-reached.reached ≡ bytes_of (ran a.direction a.rounds c.state_in-s.result)
-reached c h = ap (λ (d : Driven). d.state) (c.in_ok-reached.ensures ∙ driven-within c.args.direction c.state_in-s.result c.args.rounds h)
+reached c h = ap (λ (d : Driven). d.state) (c.in_ok-reached.ensures.answer ∙ driven-within c.args.direction c.state_in-s.result c.args.rounds h)
 
 pub returns : goal.returns
 returns c =
