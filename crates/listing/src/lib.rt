@@ -98,18 +98,16 @@ impl Text {
     }
 }
 
-// The text for a file.
-fn text_of(f: &[u8]) -> Text
-    ensures { result ≡ listing f.now }
+// Makes the text for a file where it stands: returned by value it would stand on the stack twice.
+fn text_of(f: &[u8], text: &mut Text)
+    requires { text.old ≡ [] }
+    ensures { text.new ≡ listing f.now }
 {
-    let mut text = Text::new();
     if f.len() > MAX_LISTED {
-        text.word(b"front too long\n");
-        return text;
+        return text.word(b"front too long\n");
     }
     if !reader::front_ok(f) {
-        text.word(b"front 12\n");
-        return text;
+        return text.word(b"front 12\n");
     }
     let h = reader::header_in(f);
     let kept = h.kept;
@@ -120,14 +118,14 @@ fn text_of(f: &[u8]) -> Text
         h.dropped as u64,
     );
     text.shots(f, kept, h.index as usize);
-    text
 }
 
 // The listing of a file: the text's length. The text is made in an array that every text has room in.
 pub fn list_front(f: &[u8], out: &mut [u8]) -> Result<usize, Refusal>
     ensures { (listed_as result ≡ list_answer f.now out.old) × (out.new ≡ list_output f.now out.old) }
 {
-    let text = text_of(f);
+    let mut text = Text::new();
+    text_of(f, &mut text);
     let count = text.used;
     if out.len() < count {
         return Err(Refusal::OutputTooShort);

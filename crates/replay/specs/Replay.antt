@@ -1,8 +1,10 @@
 -- A list of calls as bytes, and what performing it leaves: demand 3's first sentence about running code.
 -- Assumes nothing.
-use Rattle.std.specs.Prelude.{Bool, false, cond, List, [], ◌∷◌, ◌++◌, ◌≡◌, ℕ, zero, suc, ◌+◌, ◌-◌, ◌/◌, ◌≤◌, ◌<◌, eqb, ltb, length, take, drop, Some, None}
+use Rattle.std.specs.Prelude.{Bool, false, cond, List, [], ◌∷◌, ◌++◌, ◌≡◌, ℕ, zero, suc, ◌+◌, ◌-◌, ◌/◌, ◌≤◌, ◌<◌, eqb, ltb, length, take, drop, Some, None, Result}
 use Rattle.std.proofs.Math.Option.{Option, some, none}
 use Rattle.bytes_le.specs.Bytes.{Bytes, put_bytes, le, le_at}
+use Rattle.refusals.specs.declared.Refusal.{Refusal}
+use Rattle.refusals.specs.Numbers.{number_of, mark_of, value_or}
 use Rattle.burst.specs.Layout.{Identity}
 use Rattle.trace.specs.Plain.{by_value, Call, keep_shot, drop_shot, close_burst, CallList, Answer, plain_of, plain_answers, total_of, file_of}
 use Rattle.trace.specs.Trace.{run_buffer}
@@ -75,6 +77,10 @@ abbrev pub call_as : ScriptCall → Call
 call_as Drop = drop_shot by_value
 call_as Close = close_burst
 call_as (Keep stamp picture) = keep_shot stamp.now picture.now
+
+-- what a call on a lent recorder answers
+abbrev pub told : Result ℕ Refusal → Answer
+told r = record { number = number_of r; mark = mark_of r; value = value_or (λ n. n) 0 r }
 
 abbrev pub first_as : Rattle.std.specs.Prelude.Option (ScriptCall × ℕ) → Option (Call × ℕ)
 first_as None = none

@@ -3,12 +3,13 @@
 
 ghost use Rattle.std.specs.Prelude.{◌≡◌, ◌++◌, ◌+◌, ◌*◌, ◌≤◌, eqb, length};
 ghost use Rattle.bytes_le.specs.Bytes.{put_bytes, le, le_at};
-ghost use Rattle.trace.specs.Trace.{shot_told, total_told, answer_to, next_recorder, next_buffer, answers_from, buffer_from};
-ghost use Rattle.replay.specs.Replay.{number_width, answer_length, call_as, first_as, first_call, script_calls, script_rest, answers_bytes, list_of, whole_script, Replayed};
+ghost use Rattle.trace.specs.Trace.{shot_told, answer_to, next_recorder, next_buffer, answers_from, buffer_from};
+ghost use Rattle.replay.specs.Replay.{number_width, answer_length, call_as, told, first_as, first_call, script_calls, script_rest, answers_bytes, list_of, whole_script, Replayed};
 ghost use Rattle.burst.specs.Layout.{identified};
-ghost use Rattle.burst.specs.Recorder.{shot_as, closed_as};
+ghost use Rattle.burst.specs.Recorder.{shot_as};
 
-use burst::{Outcome, Recorder, Shot};
+use burst::{Recorder, Shot};
+use refusals::Refusal;
 
 // The bytes of a script that begin a call: the C interface has them as numbers, and `first_call` reads them into the enum.
 const DROP: u8 = 0;
@@ -65,26 +66,33 @@ fn first_call(script: &[u8]) -> Option<(ScriptCall, usize)>
 }
 
 // What a keep or a drop answers, with the shot number as a plain number.
-fn with_number(k: Outcome<Shot>) -> Outcome<u32>
-    ensures { (total_told (closed_as result) ≡ shot_told (shot_as k)) × (result.recorder ≡ k.recorder) }
+fn with_number(answer: Result<Shot, Refusal>) -> Result<u32, Refusal>
+    ensures { (r : Recorder) → told result ≡ shot_told (shot_as (record { answer = answer; recorder = r })) }
 {
-    Outcome {
-        answer: k.answer.map(|shot| u32::from(shot.0)),
-        recorder: k.recorder,
-    }
+    answer.map(|shot| u32::from(shot.0))
 }
 
-// Performs a call: it answers a shot number, or a close the total.
-fn perform(r: Recorder, call: ScriptCall, buffer: &mut [u8]) -> Outcome<u32>
-    ensures answer { total_told (closed_as result) ≡ answer_to r buffer.old (call_as call.entry) }
-    ensures recorder { result.recorder ≡ next_recorder r buffer.old (call_as call.entry) }
-    ensures output { buffer.new ≡ next_buffer r buffer.old (call_as call.entry) }
+// Performs a call on the recorder: it answers a shot number, or a close the total. In place, since each copy of a recorder is 800 bytes.
+fn perform(r: &mut Recorder, call: ScriptCall, buffer: &mut [u8]) -> Result<u32, Refusal>
+    ensures answer { told result ≡ answer_to r.old buffer.old (call_as call.entry) }
+    ensures recorder { r.new ≡ next_recorder r.old buffer.old (call_as call.entry) }
+    ensures output { buffer.new ≡ next_buffer r.old buffer.old (call_as call.entry) }
 {
     match call {
-        ScriptCall::Drop => with_number(burst::drop_shot(r)),
-        ScriptCall::Close => burst::close(r, buffer),
+        ScriptCall::Drop => {
+            let k = burst::drop_shot(*r);
+            *r = k.recorder;
+            with_number(k.answer)
+        }
+        ScriptCall::Close => {
+            let k = burst::close(*r, buffer);
+            *r = k.recorder;
+            k.answer
+        }
         ScriptCall::Keep { stamp, picture } => {
-            with_number(burst::keep(r, stamp, picture, buffer))
+            let k = burst::keep(*r, stamp, picture, buffer);
+            *r = k.recorder;
+            with_number(k.answer)
         }
     }
 }
@@ -134,11 +142,10 @@ fn run(
         let Some((call, taken)) = first_call(rest) else {
             return ended(i, rest);
         };
-        let k = perform(r, call, buffer);
-        let number = refusals::number_of(&k.answer);
-        let value = k.answer.unwrap_or(0);
+        let answer = perform(&mut r, call, buffer);
+        let number = refusals::number_of(&answer);
+        let value = answer.unwrap_or(0);
         put_answer(answers, ANSWER_LENGTH * i, number, value);
-        r = k.recorder;
         rest = &rest[taken..];
     }
     ended(room, rest)

@@ -11,12 +11,12 @@ pub returns-then-out-count : goal.returns-then-out-count
 returns-then-out-count c =
     let a = c.args in
     let t = c.text.inside in
-    let n = sym (length-take-le t.used t.room (omega arith)) ∙ ap length (c.text.view_is ∙ c.text_of-text.ensures) in
+    let n = sym (length-take-le t.used t.room (omega arith)) ∙ ap length (c.text.view_is ∙ c.text_of.ensures) in
     list-refused a.f.now a.out.now (omega (arith, c.if-out-count, n))
 
 pub returns : goal.returns
 returns c =
     let a = c.args in
     let t = c.text.inside in
-    list_done a.f.now a.out.now t.used (take t.used t.room) _ (c.text.view_is ∙ c.text_of-text.ensures) (sym (length-take-le t.used t.room (omega arith)))
+    list_done a.f.now a.out.now t.used (take t.used t.room) _ (c.text.view_is ∙ c.text_of.ensures) (sym (length-take-le t.used t.room (omega arith)))
     c.if-out-count.false c.put_bytes.ensures.1

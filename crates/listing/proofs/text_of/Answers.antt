@@ -14,12 +14,12 @@ use Rattle.listing.proofs.text_of.Goals as goal
 
 pub returns-then-f-gt-MAX_LISTED : goal.returns-then-f-gt-MAX_LISTED
 returns-then-f-gt-MAX_LISTED c =
-    c.word.ensures ∙ ap (λ (t : Bytes). t ++ ascii "front too long\n") c.new-text.ensures
+    c.word.ensures ∙ ap (λ (t : Bytes). t ++ ascii "front too long\n") c.requires
     ∙ long-listing c.args.f.now (omega (arith, c.if-f-gt-MAX_LISTED))
 
 pub returns-then-not-front_ok : goal.returns-then-not-front_ok
 returns-then-not-front_ok c =
-    c.word-then-not-front_ok.ensures ∙ ap (λ (t : Bytes). t ++ ascii "front 12\n") c.new-text.ensures
+    c.word-then-not-front_ok.ensures ∙ ap (λ (t : Bytes). t ++ ascii "front 12\n") c.requires
     ∙ broken-listing c.args.f.now (omega (arith, c.if-f-gt-MAX_LISTED)) (sym c.front_ok.ensures ∙ c.if-not-front_ok.true)
 
 pub header_in-h-requires : goal.header_in-h-requires
@@ -31,7 +31,7 @@ shots-requires c =
     let a = c.args in
     let h = c.header_in-h.result in
     let w = reads a.f.now _ h c.header_in-h.ensures refl (front a.f.now (sym c.front_ok.ensures ∙ c.if-not-front_ok.false)) in
-    let z = ap length c.new-text.ensures in (
+    let z = ap length c.requires in (
       omega (arith, w.closing, w.total, w.size),
       omega (arith, w.known, w.most, w.counts),
       omega (arith, z, c.head.ensures.most, w.known, w.most, w.counts),
@@ -44,6 +44,6 @@ returns c =
     let r = h.result in
     c.shots.ensures
     ∙ ap (λ (t : Bytes). t ++ shot_lines (entries_at r.kept.0 r.index f))
-    (c.head.ensures.text ∙ ap (λ (t : Bytes). t ++ head_lines r.burst_number r.taken.0 r.kept.0 r.dropped) c.new-text.ensures)
+    (c.head.ensures.text ∙ ap (λ (t : Bytes). t ++ head_lines r.burst_number r.taken.0 r.kept.0 r.dropped) c.requires)
     ∙ front-made f r h.ensures
     ∙ front-listing f (omega (arith, c.if-f-gt-MAX_LISTED)) (sym c.front_ok.ensures ∙ c.if-not-front_ok.false)

@@ -7,11 +7,11 @@ use Rattle.replay.proofs.perform.Goals as goal
 
 pub returns-in-Drop-clause-answer : goal.returns-in-Drop-clause-answer
 unfolding answer_to
-returns-in-Drop-clause-answer c = rw c.in-Drop.is (c.with_number.ensures.0 ∙ ap shot_told c.drop_shot.ensures)
+returns-in-Drop-clause-answer c = rw c.in-Drop.is (c.with_number.ensures c.drop_shot-k.result.recorder ∙ ap shot_told c.drop_shot-k.ensures)
 
 pub returns-in-Drop-clause-recorder : goal.returns-in-Drop-clause-recorder
 unfolding next_recorder
-returns-in-Drop-clause-recorder c = rw c.in-Drop.is (c.with_number.ensures.1 ∙ ap (λ (a : ShotAnswer). a.recorder) c.drop_shot.ensures)
+returns-in-Drop-clause-recorder c = rw c.in-Drop.is (ap (λ (a : ShotAnswer). a.recorder) c.drop_shot-k.ensures)
 
 pub returns-in-Drop-clause-output : goal.returns-in-Drop-clause-output
 unfolding next_buffer
@@ -19,24 +19,24 @@ returns-in-Drop-clause-output c = rw c.in-Drop.is (refl)
 
 pub returns-in-Close-clause-answer : goal.returns-in-Close-clause-answer
 unfolding answer_to
-returns-in-Close-clause-answer c = rw c.in-Close.is (ap total_told c.close.ensures.answer)
+returns-in-Close-clause-answer c = rw c.in-Close.is (ap total_told c.close-k.ensures.answer)
 
 pub returns-in-Close-clause-recorder : goal.returns-in-Close-clause-recorder
 unfolding next_recorder
-returns-in-Close-clause-recorder c = rw c.in-Close.is (ap (λ (a : Closed). a.recorder) c.close.ensures.answer)
+returns-in-Close-clause-recorder c = rw c.in-Close.is (ap (λ (a : Closed). a.recorder) c.close-k.ensures.answer)
 
 pub returns-in-Close-clause-output : goal.returns-in-Close-clause-output
 unfolding next_buffer
-returns-in-Close-clause-output c = rw c.in-Close.is (c.close.ensures.output)
+returns-in-Close-clause-output c = rw c.in-Close.is (c.close-k.ensures.output)
 
 pub returns-in-Keep-clause-answer : goal.returns-in-Keep-clause-answer
 unfolding answer_to
-returns-in-Keep-clause-answer c = rw c.in-Keep.is (c.with_number-in-Keep.ensures.0 ∙ ap shot_told c.keep.ensures.answer)
+returns-in-Keep-clause-answer c = rw c.in-Keep.is (c.with_number-in-Keep.ensures c.keep-k.result.recorder ∙ ap shot_told c.keep-k.ensures.answer)
 
 pub returns-in-Keep-clause-recorder : goal.returns-in-Keep-clause-recorder
 unfolding next_recorder
-returns-in-Keep-clause-recorder c = rw c.in-Keep.is (c.with_number-in-Keep.ensures.1 ∙ ap (λ (a : ShotAnswer). a.recorder) c.keep.ensures.answer)
+returns-in-Keep-clause-recorder c = rw c.in-Keep.is (ap (λ (a : ShotAnswer). a.recorder) c.keep-k.ensures.answer)
 
 pub returns-in-Keep-clause-output : goal.returns-in-Keep-clause-output
 unfolding next_buffer
-returns-in-Keep-clause-output c = rw c.in-Keep.is (c.keep.ensures.output)
+returns-in-Keep-clause-output c = rw c.in-Keep.is (c.keep-k.ensures.output)

@@ -31,16 +31,16 @@ pub loop-i-preserved : goal.loop-i-preserved
 loop-i-preserved c =
     let l = c.loop-i in
     let a = c.args in
-    let k = c.perform-k.ensures in
+    let k = c.perform-answer.ensures in
     let s = l.rest.now in
     let n = c.number_of-number.ensures ∙ ap (λ (y : Answer). y.number) k.answer in
-    let v = c.unwrap_or-value.ensures ∙ value-is c.perform-k.result.answer ∙ ap (λ (y : Answer). y.value) k.answer in
+    let v = c.unwrap_or-value.ensures ∙ value-is c.perform-answer.result ∙ ap (λ (y : Answer). y.value) k.answer in
     let w = turned a.script.now a.room _ _ _ l.r l.buffer l.answers s l.i l.invariant.left (omega (arith, c.requires, l.invariant.answers)) c.loop-i-test.true _ (sym c.in-Some.ensures) _ _ _
     k.recorder k.output (c.put_answer.ensures ∙ ap₂ (λ (num value : ℕ). put_bytes l.answers (8 * l.i) (le 4 num ++ le 4 value)) n v) in
     record {
       answers = c.put_answer.auto.answers ∙ l.invariant.answers;
-      buffer = c.perform-k.auto.buffer ∙ l.invariant.buffer;
-      left = subst (λ (t : Bytes). Left a.script.now a.room a.start a.buffer.now a.answers.now c.perform-k.result.recorder c.perform-k.new.buffer c.put_answer.new.answers t (l.i + 1))
+      buffer = c.perform-answer.auto.buffer ∙ l.invariant.buffer;
+      left = subst (λ (t : Bytes). Left a.script.now a.room a.start a.buffer.now a.answers.now c.perform-answer.new.r c.perform-answer.new.buffer c.put_answer.new.answers t (l.i + 1))
           (sym (take_all (length s - c.in-Some.taken) (drop c.in-Some.taken s) (simp length-drop (omega arith)))) w;
     }
 
