@@ -1,4 +1,4 @@
--- The claims about the permutation, beside the contracts of `permutation::p6`, `p12` and `start_state`.
+-- The claims about the permutation, beside the contracts of `permutation::p::<6>`, `p::<12>` and `start_state`.
 -- Assumes nothing.
 use Rattle.std.specs.Prelude.{◌≡◌, ℕ, ◌+◌, ◌%◌, ◌≤◌, ◌<◌}
 use Rattle.bits.specs.Bits.{bit, word_length}
