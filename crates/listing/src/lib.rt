@@ -98,7 +98,7 @@ impl Text {
     }
 }
 
-// Makes the text for a file where it stands: returned by value it would stand on the stack twice.
+// The text for a file, in an empty one that is lent: one that was returned would stand on the stack twice.
 fn text_of(f: &[u8], text: &mut Text)
     requires { text.old ≡ [] }
     ensures { text.new ≡ listing f.now }

@@ -78,13 +78,13 @@ call_as Drop = drop_shot by_value
 call_as Close = close_burst
 call_as (Keep stamp picture) = keep_shot stamp.now picture.now
 
--- what a call on a lent recorder answers
-abbrev pub told : Result ℕ Refusal → Answer
-told r = record { number = number_of r; mark = mark_of r; value = value_or (λ n. n) 0 r }
-
 abbrev pub first_as : Rattle.std.specs.Prelude.Option (ScriptCall × ℕ) → Option (Call × ℕ)
 first_as None = none
 first_as (Some x) = some (call_as x.0, x.1)
+
+-- what it has for an answer: of a shot its number, of a close the total
+abbrev pub told : Result ℕ Refusal → Answer
+told r = record { number = number_of r; mark = mark_of r; value = value_or (λ n. n) 0 r }
 
 -- ---- the whole
 -- the list that a script says, where so many bytes are lent for the answers: begin's answer needs room, and each call's as much more

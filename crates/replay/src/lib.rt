@@ -72,7 +72,7 @@ fn with_number(answer: Result<Shot, Refusal>) -> Result<u32, Refusal>
     answer.map(|shot| u32::from(shot.0))
 }
 
-// Performs a call on the recorder: it answers a shot number, or a close the total. In place, since each copy of a recorder is 800 bytes.
+// Performs a call on the recorder: it answers a shot number, or a close the total. In place, since a recorder has some 800 bytes to copy.
 fn perform(r: &mut Recorder, call: ScriptCall, buffer: &mut [u8]) -> Result<u32, Refusal>
     ensures answer { told result ≡ answer_to r.old buffer.old (call_as call.entry) }
     ensures recorder { r.new ≡ next_recorder r.old buffer.old (call_as call.entry) }

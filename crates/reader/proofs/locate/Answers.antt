@@ -10,6 +10,11 @@ use Rattle.reader.specs.declared.Header.{Header}
 use Rattle.reader.specs.Reader.{position_as, summary_as, check_answer}
 use Rattle.reader.proofs.Answers.{accepted, checked-refusal, checked-mark, checked-kept, locate-check, locate-13, locate-0}
 use Rattle.reader.proofs.locate.Goals as goal
+use Rattle.reader.proofs.locate.Goals.{In_ok-c}
+
+-- what the call goes on with is what check answers: found, so that a call put around check's is judged by what it does
+passed : (c : In_ok-c) → summary_as (Ok c.in_ok-c.c) ≡ check_answer c.args.key.now c.args.f.now
+passed c = search rules
 
 pub returns-in_err-c : goal.returns-in_err-c
 returns-in_err-c c =
@@ -22,20 +27,18 @@ returns-in_err-c c =
 pub returns-then-place-c : goal.returns-then-place-c
 returns-then-place-c c =
     let a = c.args in
-    let e : summary_as (Ok c.in_ok-c.c) ≡ check_answer a.key.now a.f.now = search rules in
+    let e = passed (goal.at.returns-then-place-c c).In_ok-c in
     let k = checked-kept _ _ _ e refl in
     locate-13 a.key.now a.f.now a.place.0 (sym (checked-refusal _ _ _ e)) (omega (arith, k, c.if-place-c))
 
 pub header_in-h-requires : goal.header_in-h-requires
 header_in-h-requires c =
-    let a = c.args in
-    let e : summary_as (Ok c.in_ok-c.c) ≡ check_answer a.key.now a.f.now = search rules in
-    let w = (accepted _ _ (sym (checked-refusal _ _ _ e))).front in omega (arith, w)
+    let w = (accepted _ _ (sym (checked-refusal _ _ _ (passed (goal.at.header_in-h-requires c).In_ok-c)))).front in omega (arith, w)
 
 pub returns : goal.returns
 returns c =
     let a = c.args in
-    let e : summary_as (Ok c.in_ok-c.c) ≡ check_answer a.key.now a.f.now = search rules in
+    let e = passed (goal.at.returns c).In_ok-c in
     let k = checked-kept _ _ _ e refl in
     locate-0 a.key.now a.f.now a.place.0 (sym (checked-refusal _ _ _ e)) (omega (arith, k, c.if-place-c)) _
     (ap (λ (n : ℕ). c.header_in-h.result.index + n) c.index_length.ensures
